@@ -6,6 +6,7 @@ fills varied, and compares each report with the model's.
 import random
 import subprocess
 import sys
+from concurrent.futures import ThreadPoolExecutor
 
 sys.dont_write_bytecode = True  # nothing is left beside the scripts
 
@@ -37,12 +38,14 @@ def printed(words, text):
 
 def main():
     model, count = sys.argv[1], int(sys.argv[2])
-    for seed in range(count):
-        text = script(random.Random(seed))
-        wanted = printed([sys.executable, model, "--stage", STAGE], text)
-        if printed(["./fsw"], text) != wanted:
-            print(f"script {seed} prints something else than the model:\n{text.decode()}")
-            return 1
+    texts = [script(random.Random(seed)) for seed in range(count)]
+    by_model = lambda text: printed([sys.executable, model, "--stage", STAGE], text)
+    with ThreadPoolExecutor() as pool:
+        same = pool.map(lambda text: printed(["./fsw"], text) == by_model(text), texts)
+        for seed, is_same in enumerate(same):
+            if not is_same:
+                print(f"script {seed} prints something else than the model:\n{texts[seed].decode()}")
+                return 1
     return 0
 
 

@@ -1,4 +1,4 @@
-"""Proves the crates that the program is made of, several at a time, and builds it.
+"""Proves the crates that the program is made of, several at a time, and builds it; then the library for C.
 
 How far it is stands in one line on standard error, which is kept up to date on a terminal;
 elsewhere there is a line for each crate. What the prover prints goes to a file. What is proved
@@ -19,6 +19,7 @@ from kit import CRATE, PROGRAM, TOP, stop_without_kit, tell
 
 OUT = os.path.dirname(PROGRAM)
 LOG = os.path.join(OUT, "build.log")
+LIBRARY = os.path.join(TOP, "crates", "fsw_c")
 BEGAN = os.path.join(OUT, "build.began")
 # What a proof takes of memory, in bytes, with some room.
 MEMORY = 3 << 30
@@ -128,13 +129,13 @@ class Progress:
         tell(text)
 
 
-def run(words, script, look):
-    """The status of rt with these words; all that it prints is added to the log."""
+def run(words, script, look, folder=CRATE):
+    """The status of rt with these words in this crate; all that it prints is added to the log."""
     with open(LOG, "ab") as log, open(LOG, encoding="utf-8", errors="replace") as said:
         said.seek(0, os.SEEK_END)
         # In a session of its own, so that all of it ends where this ends.
         how = dict(stdin=script, stdout=log, stderr=log, start_new_session=True)
-        rt = subprocess.Popen(["rt", *words], cwd=CRATE, **how)
+        rt = subprocess.Popen(["rt", *words], cwd=folder, **how)
         try:
             while rt.poll() is None:
                 time.sleep(0.2)
@@ -160,6 +161,10 @@ def build(progress):
         show = lambda _: progress.show("building the program")
         if run(["run", "--", "lockstep"], script, show):
             return "the program could not be built"
+    if os.path.isdir(LIBRARY):
+        show = lambda _: progress.show("the library for C")
+        if run(["lib"], subprocess.DEVNULL, show, LIBRARY):
+            return "the library for C could not be built"
     return ""
 
 

@@ -1,51 +1,49 @@
-"""Runs many scripts over one compilation without a proof, many of them in one process.
+"""Runs the tests of crates, and many scripts, over one compilation without a proof.
 
 rt prepares the whole program anew for each run, which takes it longer than a script takes. So the
-scripts go in groups to a program that runs one after the other, by the call that `main` makes. Where
-a group has no answer, each of its scripts is run by the program itself.
+scripts go in groups to tests that stand beside those of the crates: each runs its group, several
+scripts at a time, by the call that `main` makes. Where a group has no answer, each of its scripts is
+run by the program itself.
 """
+import json
 import re
+import subprocess
 import tempfile
 from pathlib import Path
 
 from gathered import lay_out
-from kit import TOP, Case, tell, try_cases
+from kit import SECONDS, TOP, Case, tell, try_cases
 
-NAME = "many_scripts"
+NAME = "all_tests"
 CRATE = "host_run"
-# A group has at most so many scripts, and reports of so many bytes: rt passes on at most a mebibyte.
+# A group has at most so many scripts.
 MOST_SCRIPTS = 64
-MOST_BYTES = 600_000
-# The program reads no words, so rt would begin each run a second time, on its interpreter.
-FLAGS = ("--steps", "1")
+# rt tells of each test in a line, of the end in another, and in a third how many passed.
+TEST = re.compile(r"test (\S+) \.\.\. ")
+RESULT = re.compile(r"^test result: \w+\. (\d+) passed; (\d+) failed", re.M)
+# A test that runs the scripts of a group, whose file it reads, and writes their answers to another.
+GROUP = """
+#[test]
+fn {name}(rt: HostRuntime) -> io::Result<()> {{
+    let input = fs::read(&rt, {input})?;
+    let output = answers(&rt, rt.alloc(), &input)?;
+    fs::write(&rt, {output}, output.as_slice())
+}}
+"""
 
 
-class Script:
-    """A run: its words and its script, and how long its report should be."""
-
-    def __init__(self, case, size):
-        self.case, self.size = case, size
-
-
-def groups_of(scripts):
+def groups_of(cases):
     """The scripts in groups, in order."""
-    groups, size = [], 0
-    for script in scripts:
-        size += script.size
-        if not groups or len(groups[-1]) == MOST_SCRIPTS or size > MOST_BYTES:
-            groups.append([])
-            size = script.size
-        groups[-1].append(script)
-    return groups
+    return [cases[at : at + MOST_SCRIPTS] for at in range(0, len(cases), MOST_SCRIPTS)]
 
 
 def framed(group):
-    """The input of a run of the program for these scripts."""
+    """The input of the test that runs these scripts."""
     text = b""
-    for case in (script.case for script in group):
+    for case in group:
         head = [str(len(case.words)), *case.words, str(len(case.text))]
         text += "".join(f"{line}\n" for line in head).encode() + case.text
-    return Case([], text)
+    return text
 
 
 def answers_in(output, count):
@@ -61,26 +59,64 @@ def answers_in(output, count):
     return answers if len(answers) == count else None
 
 
-def try_scripts(scripts, is_told=lambda count: None):
-    """Makes these runs: of each the status, None where it didn't end, and what it printed. In place
-    of them None where nothing was run. Behind that what rt said."""
-    groups = groups_of(scripts)
-    ends = [sum(map(len, groups[:at])) for at in range(len(groups) + 1)]
-    main = Path(TOP, "tools", f"{NAME}.main").read_text(encoding="utf-8")
-    with tempfile.TemporaryDirectory(prefix="fsw-scripts-") as folder:
-        crate = lay_out(folder, NAME, [CRATE], main)
-        told = lambda count: is_told(ends[count])
-        outputs, said = try_cases(list(map(framed, groups)), told, crate, FLAGS)
-    if outputs is None:
-        return None, said
-    found = [answers_in(output, len(group)) if status == 0 else None for group, (status, output) in zip(groups, outputs)]
-    return with_lone_runs(groups, found), said
+class Groups:
+    """The files of groups of scripts in a folder, and the tests that run them."""
+
+    def __init__(self, folder, cases):
+        self.folder, self.groups = Path(folder), groups_of(cases)
+        self.names = [f"scripts_{at:03}" for at in range(len(self.groups))]
+        for name, group in zip(self.names, self.groups):
+            self.file(name, "in").write_bytes(framed(group))
+
+    def file(self, name, ending):
+        return self.folder / f"{name}.{ending}"
+
+    def program(self):
+        """The text that stands behind the modules of the program."""
+        if not self.groups:
+            return ""
+        text = Path(TOP, "tools", "many_scripts.main").read_text(encoding="utf-8")
+        spelled = lambda name, ending: json.dumps(str(self.file(name, ending)))
+        tests = [GROUP.format(name=it, input=spelled(it, "in"), output=spelled(it, "out")) for it in self.names]
+        return "".join([text, *tests])
+
+    def answers(self):
+        """The answers of all scripts, of which those in groups without one are run by themselves."""
+        written = [self.file(name, "out") for name in self.names]
+        found = [answers_in(path.read_bytes() if path.exists() else b"", len(group)) for path, group in zip(written, self.groups)]
+        lone = [case for group, answers in zip(self.groups, found) if answers is None for case in group]
+        if lone:
+            tell(f"{len(lone)} scripts are run one by one, since in one process they had no answer")
+        runs = iter((try_cases(lone)[0] if lone else None) or [(None, b"")] * len(lone))
+        return [answer for group, answers in zip(self.groups, found) for answer in answers or [next(runs) for _ in group]]
 
 
-def with_lone_runs(groups, found):
-    """The answers of all scripts, of which those in groups without one are run by themselves."""
-    lone = [script.case for group, answers in zip(groups, found) if answers is None for script in group]
-    if lone:
-        tell(f"{len(lone)} scripts are run one by one, since in one process they had no answer")
-    runs = iter((try_cases(lone)[0] if lone else None) or [(None, b"")] * len(lone))
-    return [answer for group, answers in zip(groups, found) for answer in answers or [next(runs) for _ in group]]
+class Outcome:
+    """How many tests of crates passed, the answers of the scripts, and whether a test failed; what
+    rt said. No test was run where `passed` is None."""
+
+    def __init__(self, said, status, groups):
+        found = RESULT.search(said)
+        self.said, self.is_good = said, status == 0 and bool(found) and found[2] == "0"
+        # Of the tests that ended well, those of groups are none of a crate.
+        good = re.findall(r"^test (\S+) \.\.\. ok$", said, re.M)
+        self.passed = len(set(good) - set(groups.names)) if found else None
+        self.answers = groups.answers() if found else None
+
+
+def try_all(crates, cases, is_told=lambda test: None):
+    """Compiles the tests of these crates as one crate, with these scripts, and runs all. `is_told` is
+    called with each test that begins or ends."""
+    with tempfile.TemporaryDirectory(prefix="fsw-tests-") as folder, tempfile.TemporaryDirectory(prefix="fsw-scripts-") as scripts:
+        groups = Groups(scripts, cases)
+        gathered = list(dict.fromkeys([*crates, *[CRATE] * bool(cases)]))
+        how = dict(cwd=lay_out(folder, NAME, gathered, crates, groups.program()), stdin=subprocess.DEVNULL)
+        how.update(stdout=subprocess.PIPE, stderr=subprocess.STDOUT, text=True, errors="replace")
+        said = []
+        with subprocess.Popen(["rt", "try", "--test", "--seconds", SECONDS], **how) as rt:
+            for line in rt.stdout:
+                said.append(line)
+                found = TEST.match(line)
+                if found:
+                    is_told(found[1])
+        return Outcome("".join(said), rt.returncode, groups)

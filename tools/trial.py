@@ -2,48 +2,43 @@
 
 The scripts of corpus/ and of examples/, each with the answer that is kept beside it, and the tests
 of all crates. Nothing of it proves anything: `./fsw build` does. With `--proved` the scripts go to
-the program that is built; otherwise they are run over one compilation. All tests are compiled as one
-crate. With `--crates` the words behind are crates, and of the tests only theirs are made.
+the program that is built; otherwise they are run over one compilation with the tests, which are
+compiled as one crate. With `--crates` the words behind are crates, and of the tests only theirs are
+made.
 """
 import os
 import re
 import subprocess
 import sys
-import tempfile
 import time
 from concurrent.futures import ThreadPoolExecutor
 from pathlib import Path
 
 sys.dont_write_bytecode = True  # nothing is left beside the sources
 
-from build import free_memory
-from gathered import lay_out
-from kit import PROGRAM, SECONDS, TOP, Case, stop_without_kit, tell
-from many import Script, try_scripts
+from kit import PROGRAM, TOP, Case, stop_without_kit, tell
+from many import try_all
 
 sys.path.insert(0, os.path.join(TOP, ".ci"))
 
 from corpus_text import cases_of, files
 
-# What a compilation takes of memory, in bytes, with some room.
-MEMORY = 2 << 30
 # How many faults are told.
 MOST_TOLD = 20
-RESULT = re.compile(r"test result: \w+\. (\d+) passed; (\d+) failed")
 
 
 class Trial:
-    """A script that is run, how long its report should be, and how its answer is judged."""
+    """A script that is run, and how its answer is judged."""
 
-    def __init__(self, name, words, script, size, fault):
-        self.name, self.case, self.size, self.fault = name, Case(words, script), size, fault
+    def __init__(self, name, words, script, fault):
+        self.name, self.case, self.fault = name, Case(words, script), fault
 
 
 def corpus_trials():
     for path in files():
         for case in cases_of(path)[1]:
             fault = lambda status, report, case=case: None if case.is_answer(status, report) else case.difference(status, report)
-            yield Trial(f"{path.name}: {case.name}", case.words, case.script, case.size(), fault)
+            yield Trial(f"{path.name}: {case.name}", case.words, case.script, fault)
 
 
 def fault_of_example(status, report, wanted):
@@ -66,7 +61,7 @@ def example_trials():
         for word in ("lockstep", "run"):
             wanted = report if word == "lockstep" or is_alone else None
             fault = lambda status, report, wanted=wanted: fault_of_example(status, report, wanted)
-            yield Trial(f"examples/{path.name}, {word}", [word], script, len(report), fault)
+            yield Trial(f"examples/{path.name}, {word}", [word], script, fault)
 
 
 def crates_with_tests():
@@ -99,7 +94,7 @@ class Progress:
         tell(f"{self.time()}, {text}")
 
 
-def answers_of_built(cases, is_told):
+def answers_of_built(cases):
     """What the proved program answers; several runs at a time."""
 
     def answer(case):
@@ -107,53 +102,34 @@ def answers_of_built(cases, is_told):
         return run.returncode, run.stdout
 
     with ThreadPoolExecutor(os.cpu_count()) as pool:
-        for count, found in enumerate(pool.map(answer, cases), 1):
-            is_told(count)
-            yield found
+        return list(pool.map(answer, cases))
 
 
 def judge(progress, trials, answers):
     """Keeps what is wrong with the answers to these scripts."""
     faults = [(trial.name, trial.fault(*answer)) for trial, answer in zip(trials, answers)]
     progress.wrong += [f"{name}: {fault}" for name, fault in faults if fault]
-
-
-def try_built(progress, trials):
-    """Runs these scripts on the proved program."""
-    judge(progress, trials, answers_of_built([trial.case for trial in trials], lambda count: None))
     progress.done(f"{len(trials)} scripts of corpus/ and examples/ were run")
 
 
-def try_compiled(progress, trials):
-    """Runs these scripts over one compilation."""
-    show = lambda count: progress.show("scripts", f"{count} of {len(trials)} scripts")
-    answers, said = try_scripts([Script(trial.case, trial.size) for trial in trials], show)
-    if answers is None:
-        progress.wrong.append(f"the program could not be compiled:\n{said}")
-        return
-    judge(progress, trials, answers)
-    progress.done(f"{len(trials)} scripts of corpus/ and examples/ were run")
-
-
-def try_tests(progress, crates):
-    """Compiles the tests of these crates as one crate and runs them; how many passed."""
-    if not crates:
+def try_compiled(progress, crates, trials):
+    """Runs the tests of these crates and these scripts over one compilation; how many tests passed."""
+    if not crates and not trials:
         return 0
-    command = ["rt", "try", "--test", "--seconds", SECONDS]
-    with tempfile.TemporaryDirectory(prefix="fsw-tests-") as folder:
-        how = dict(cwd=lay_out(folder, "all_tests", crates), stdin=subprocess.DEVNULL, capture_output=True)
-        run = subprocess.run(command, text=True, errors="replace", **how)
-    found = RESULT.search(run.stdout + run.stderr)
-    passed = int(found[1]) if found else 0
-    if run.returncode or not found or found[2] != "0":
-        progress.wrong.append(f"tests of {' '.join(crates)}:\n{run.stdout}{run.stderr}".rstrip())
-    progress.done(f"{passed} tests of {len(crates)} crates passed")
-    return passed
+    begun = []
 
+    def show(test):
+        begun.append(test)
+        progress.show("tests", f"test {len(begun)}, {test}")
 
-def lanes():
-    """How many compilations are made at a time: that of the scripts, and that of the tests."""
-    return max(1, min(2, len(os.sched_getaffinity(0)), free_memory() // MEMORY))
+    progress.show("tests", "compiling")
+    outcome = try_all(crates, [trial.case for trial in trials], show)
+    if not outcome.is_good:
+        progress.wrong.append(f"tests of {' '.join(crates)}:\n{outcome.said}".rstrip())
+    if trials and outcome.answers:
+        judge(progress, trials, outcome.answers)
+    progress.done(f"{outcome.passed or 0} tests of {len(crates)} crates passed")
+    return outcome.passed or 0
 
 
 def main(words):
@@ -166,12 +142,11 @@ def main(words):
     crates = words[1:] if words else crates_with_tests()
     trials = [*corpus_trials(), *example_trials()]
     program = "the proved program" if is_proved else "the program compiled without a proof"
-    tell(f"{len(trials)} scripts on {program}, and the tests of {len(crates)} crates; up to five minutes on four processors")
+    tell(f"{len(trials)} scripts on {program}, and the tests of {len(crates)} crates; up to ten minutes on four processors")
     progress = Progress()
-    with ThreadPoolExecutor(lanes()) as pool:
-        scripts = pool.submit(try_built if is_proved else try_compiled, progress, trials)
-        passed = pool.submit(try_tests, progress, crates).result()
-        scripts.result()
+    if is_proved:
+        judge(progress, trials, answers_of_built([trial.case for trial in trials]))
+    passed = try_compiled(progress, crates, [] if is_proved else trials)
     for line in progress.wrong[:MOST_TOLD]:
         tell(line)
     found = f"{len(progress.wrong)} wrong, of which the first stand above" if progress.wrong else "all as it should be"

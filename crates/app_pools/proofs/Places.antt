@@ -1,6 +1,7 @@
 -- The places of the pools: those that were created stand first, and the grants of all of them are numbered.
-use Rattle.std.proofs.Common.{◌≡◌, ℕ, ◌+◌, ◌-◌, ◌*◌, ◌^◌, ◌<◌, ◌≤◌, ltb, ◌||◌, zero, suc, Bool, true, false, not, leb, cond, List, [], ◌∷◌, ◌++◌, length, get_or, set, take, drop, map, replicate, sum_by, Result, Ok, Err, refl, ap, sym, subst, ◌∙◌, arith}
+use Rattle.std.proofs.Common.{◌≡◌, ℕ, ◌+◌, ◌-◌, ◌*◌, ◌^◌, ◌<◌, ◌≤◌, ltb, ◌||◌, zero, suc, Bool, true, false, not, leb, cond, List, [], ◌∷◌, ◌++◌, length, get_or, set, take, drop, map, replicate, sum_by, Option, Some, Result, Ok, Err, refl, ap, sym, subst, ◌∙◌, arith}
 use Rattle.std.proofs.lemmas.Bool.{false≢true, leb-false, leb-true, not-false}
+use Rattle.std.specs.Result.{result_err}
 use Rattle.std.proofs.lemmas.Bool.Decides.{nat_tests}
 use Rattle.fsw_base.specs.PoolAccounts.{overhead}
 use Rattle.std.proofs.lemmas.List.{length-replicate, get_or-replicate, length-set, length-take-le, length-map, length-drop, length-append, get_or-set_other, get_or-take, get_or-drop, get_or-append_right, take_more_set, take_at, get_or_default}
@@ -146,6 +147,13 @@ answer_there s pool r a is e = e ∙ sym (ap (λ b. cond b a (Err NoPool)) is)
 
 pub answer_nowhere : {A : Type 0} (s : Pools) (pool : ℕ) (a : Result A EsStatus) → is_pool s pool ≡ false → Err NoPool ≡ answer_in s pool a
 answer_nowhere s pool a is = sym (ap (λ b. cond b a (Err NoPool)) is)
+
+-- and its refusal
+pub refusal_there : {A B : Type 0} (s : Pools) (pool : ℕ) (r : Result A EsStatus) (a : Result B EsStatus) → is_pool s pool ≡ true → result_err r ≡ result_err a → result_err r ≡ result_err (answer_in s pool a)
+refusal_there {A} {B} s pool r a is e = let told : Bool → Option EsStatus = λ b. result_err (cond {A = Result B EsStatus} b a (Err NoPool)) in e ∙ sym (ap told is)
+
+pub refusal_nowhere : {B : Type 0} (s : Pools) (pool : ℕ) (a : Result B EsStatus) → is_pool s pool ≡ false → Some NoPool ≡ result_err (answer_in s pool a)
+refusal_nowhere {B} s pool a is = let told : Bool → Option EsStatus = λ b. result_err (cond {A = Result B EsStatus} b a (Err NoPool)) in sym (ap told is)
 
 pub unchanged_nowhere : (s : Pools) (pool : ℕ) (x : PoolGrants) → is_pool s pool ≡ false → s ≡ with_pool s pool x
 unchanged_nowhere s pool x is = sym (ap (λ b. cond b (record s { pools = set s.pools (pool - 1) x }) s) is)

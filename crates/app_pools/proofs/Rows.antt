@@ -1,6 +1,7 @@
 -- The grants that are out, by rising number: where one stands, and what is left without it.
-use Rattle.std.proofs.Common.{◌≡◌, ◌≢◌, ℕ, ◌+◌, ◌<◌, ◌≤◌, ◌⊎◌, inl, inr, zero, suc, Bool, true, false, not, cond, eqb, Result, Ok, Err, List, [], ◌∷◌, length, get_or, map, refl, ap, sym, subst, ◌∙◌, arith}
+use Rattle.std.proofs.Common.{◌≡◌, ◌≢◌, ℕ, ◌+◌, ◌<◌, ◌≤◌, ◌⊎◌, inl, inr, zero, suc, Bool, true, false, not, cond, eqb, find, Option, Some, Result, Ok, Err, List, [], ◌∷◌, length, get_or, map, refl, ap, sym, subst, ◌∙◌, arith}
 use Rattle.std.specs.List.{filter, remove, All}
+use Rattle.std.specs.Option.{option_map, option_map_or}
 use Rattle.std.proofs.lemmas.Bool.{cases_lt}
 use Rattle.std.proofs.lemmas.Bool.Decides.{nat_tests}
 use Rattle.std.proofs.lemmas.List.Edits.{length-remove, get_or-remove_below, get_or-remove_above}
@@ -10,10 +11,10 @@ use Rattle.std.specs.List.Sorted.{IsSearchInRange, IsBinarySearchResult, IsNonDe
 use Rattle.std.specs.Ordering.{nat_cmp, ordering_index}
 use Rattle.std.proofs.lemmas.Cmp.{ranked}
 use Rattle.std.proofs.lemmas.List.Sorted.{IsNonDecreasingBy-from_default}
-use Rattle.fsw_base.proofs.Lists.{list_any-map, filter-map, count_by-map}
+use Rattle.fsw_base.proofs.Lists.{list_any-map, filter-map, find-map, count_by-map}
 use Rattle.es_pool.proofs.Keeps.{true_from_same, false_from_other}
 use Rattle.pool_words.proofs.Tests.{filter_all}
-use Rattle.pool_words.specs.Grants.{Grant, is_among, without, of_others, held_by, out_of}
+use Rattle.pool_words.specs.Grants.{Grant, is_among, class_under, without, of_others, held_by, out_of}
 use Rattle.app_pools.specs.Inside.{grant_of, AreRising, HasNumber}
 use Rattle.app_pools.specs.declared.pool.Lent.{Lent}
 
@@ -55,6 +56,18 @@ remove_is (x ∷ lent) n (suc i) rising h =
 
 pub without_is : (lent : List Lent) (n i : ℕ) → AreRising lent → HasNumber lent n i → map grant_of (remove lent i) ≡ without n (map grant_of lent)
 without_is lent n i rising h = ap (map grant_of) (remove_is lent n i rising h) ∙ sym (filter-map (λ grant. not (eqb grant.number n)) grant_of lent)
+
+-- the grant of a number is found, and its class
+found_here : (lent : List Lent) (n i : ℕ) → AreRising lent → HasNumber lent n i → (d : Lent) → find (λ grant. eqb grant.number n) lent ≡ Some (get_or lent i d)
+found_here [] n i rising h d = absurd (omega (arith, h.0))
+found_here (x ∷ lent) n zero rising h d = ap (λ b. cond {A = Option Lent} b (Some x) (find (λ grant. eqb grant.number n) lent)) (true_from_same x.number n (h.1 x))
+found_here (x ∷ lent) n (suc i) rising h d =
+    ap (λ b. cond {A = Option Lent} b (Some x) (find (λ grant. eqb grant.number n) lent)) (first_below x lent n i rising h)
+    ∙ found_here lent n i (rising_tail x lent rising) (number_tail x lent n i h) d
+
+pub class_here : (lent : List Lent) (n i : ℕ) → AreRising lent → HasNumber lent n i → (d : Lent) → class_under (map grant_of lent) n ≡ (get_or lent i d).class
+class_here lent n i rising h d =
+    ap (λ o. option_map_or (λ (grant : Grant). grant.class) o 0) (find-map (λ (grant : Grant). eqb grant.number n) grant_of lent ∙ ap (option_map grant_of) (found_here lent n i rising h d))
 
 -- the grant of a number is among them
 pub among_here : (lent : List Lent) (n i : ℕ) → HasNumber lent n i → is_among (map grant_of lent) n ≡ true

@@ -37,4 +37,5 @@
 mod pool;
 mod pools;
 
+pub use pool::GrantBlock;
 pub use pools::{AppPools, MAX_APP_POOLS};

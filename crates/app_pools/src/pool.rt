@@ -1,9 +1,10 @@
 //! One pool of applications, with its grants.
-ghost use Rattle.std.specs.Prelude.{◌≡◌, ◌≢◌, ◌==◌, ◌&&◌, nat_le, nat_lt, ℕ, ◌+◌, ◌-◌, ◌*◌, ◌<◌, ◌≤◌, ◌^◌, if◌then◌else◌, true, not, [], length, map, filter, vec_capacity, All, IsTrue, IfOk, IfSome, None};
-ghost use Rattle.fsw_base.specs.PoolAccounts.{counted};
+ghost use Rattle.std.specs.Prelude.{◌≡◌, ◌≢◌, ◌==◌, ◌&&◌, nat_le, nat_lt, ℕ, ◌+◌, ◌-◌, ◌*◌, ◌<◌, ◌≤◌, ◌^◌, if◌then◌else◌, true, not, [], length, map, filter, vec_capacity, slice_index, All, IsTrue, IfOk, IfSome, None};
+ghost use Rattle.std.specs.Result.{result_err};
+ghost use Rattle.fsw_base.specs.PoolAccounts.{counted, overhead};
 ghost use Rattle.es_pool.specs.Account.{IsAccountOf};
 ghost use Rattle.es_pool.specs.Pool.{class_at, is_out, given_back};
-ghost use Rattle.pool_words.specs.Grants.{new_pool, get_answer, after_get, put_answer, after_put, after_end, figures_of, held_by, pool_account};
+ghost use Rattle.pool_words.specs.Grants.{new_pool, get_answer, after_get, put_answer, after_put, after_end, figures_of, held_by, class_under, pool_account};
 ghost use Rattle.app_pools.specs.Inside.{grant_of, account_in, AreLent, AreRising, HasNumber, AreGivenBack};
 
 use es_pool::{BlockNo, Pool};
@@ -23,6 +24,16 @@ struct Lent {
     class: u32,
     // The block that is out under it.
     block: BlockNo,
+}
+
+/// Where the block of a grant lies.
+#[derive(Clone, Copy, Debug, PartialEq, Eq)]
+pub struct GrantBlock {
+    /// Where it begins, in bytes from the pool's first byte on: 16 or more, and by the code a
+    /// multiple of 8.
+    pub offset: u32,
+    /// Its bytes.
+    pub size: u32,
 }
 
 /// A pool that hands out grants, numbered from 1, in place of its blocks, which go out again and
@@ -137,6 +148,33 @@ impl AppPool {
                 Ok(())
             }
             None => Err(refuse(&mut self.pool, EsStatus::PoolBlockInvalid)),
+        }
+    }
+
+    /// Where the block of a grant lies. By the code, it stays there until the grant is given back,
+    /// and no two grants that are out have a byte in common.
+    ///
+    /// # Errors
+    /// Those of a return; this one isn't counted.
+    pub(crate) fn block(&self, grant: u64) -> Result<GrantBlock, EsStatus>
+        ensures refused { result_err result ≡ result_err (put_answer self.now grant) }
+        ensures behind { IfOk result (λ block. overhead ≤ block.offset) }
+        ensures within { IfOk result (λ block. block.offset + block.size ≤ self.now.bytes) }
+        ensures size { IfOk result (λ block. block.size ≡
+            slice_index self.now.sizes (class_under self.now.out grant)) }
+    {
+        if !was_given(self.given, grant) {
+            return Err(EsStatus::BufferNotInPool);
+        }
+        match place_of(&self.lent, grant) {
+            Some(place) => {
+                let block = self.lent[place].block;
+                Ok(GrantBlock {
+                    offset: self.pool.offset_of(block),
+                    size: self.pool.size_of(block),
+                })
+            }
+            None => Err(EsStatus::PoolBlockInvalid),
         }
     }
 

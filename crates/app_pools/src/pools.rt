@@ -1,11 +1,12 @@
 //! The pools of all applications.
 ghost use Rattle.std.specs.Prelude.{◌≡◌, ◌+◌, ◌-◌, ◌*◌, ◌<◌, ◌≤◌, ◌^◌, ◌++◌, false, [], length, map, take, drop, replicate, slice_index, sum_by, All, IsTrue, IfOk, IfSome, Ok, None};
+ghost use Rattle.std.specs.Result.{result_err};
 ghost use Rattle.es_pool.specs.Account.{IsAccountOf};
 ghost use Rattle.fsw_base.specs.PoolAccounts.{overhead};
-ghost use Rattle.pool_words.specs.Grants.{new_pool, is_pool, pool_in, with_pool, has_numbers, refuses_pool, create_answer, after_create, answer_in, get_answer, after_get, put_answer, after_put, figures_of, after_end, held_by, all_after_end, held_in, pool_account, IsNumbered};
+ghost use Rattle.pool_words.specs.Grants.{new_pool, is_pool, pool_in, with_pool, has_numbers, refuses_pool, create_answer, after_create, answer_in, get_answer, after_get, put_answer, after_put, figures_of, after_end, held_by, all_after_end, held_in, class_under, pool_account, IsNumbered};
 ghost use Rattle.app_pools.specs.Inside.{IsPlace};
 
-use crate::pool::AppPool;
+use crate::pool::{AppPool, GrantBlock};
 use es_pool::{OVERHEAD, Pool};
 use fsw_base::{AppNo, BlockSizes, Config, EsStatus, PoolStats};
 use std::alloc::{AllocError, Global};
@@ -125,6 +126,28 @@ impl AppPools {
     {
         match self.place_of(pool) {
             Some(place) => self.places[place].put(grant, steps),
+            None => Err(EsStatus::NoPool),
+        }
+    }
+
+    /// Where the block of a grant of a pool lies, whichever application it was given to. By the
+    /// code, it stays there until the grant is given back, and no two grants that are out have a
+    /// byte in common.
+    ///
+    /// # Errors
+    /// Those of [`AppPools::put`]; this one isn't counted.
+    pub fn block(&self, pool: u32, grant: u64) -> Result<GrantBlock, EsStatus>
+        ensures refused { result_err result ≡
+            result_err (answer_in self.now pool (put_answer (pool_in self.now pool) grant)) }
+        ensures behind { IfOk result (λ block. overhead ≤ block.offset) }
+        ensures within { IfOk result
+            (λ block. block.offset + block.size ≤ (pool_in self.now pool).bytes) }
+        ensures size { IfOk result (λ block. block.size ≡
+            slice_index (pool_in self.now pool).sizes
+            (class_under (pool_in self.now pool).out grant)) }
+    {
+        match self.place_of(pool) {
+            Some(place) => self.places[place].block(grant),
             None => Err(EsStatus::NoPool),
         }
     }

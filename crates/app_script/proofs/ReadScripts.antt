@@ -8,7 +8,7 @@ use Rattle.fsw_base.specs.Blocks.{are_block_sizes}
 use Rattle.fsw_base.specs.Starts.{is_start, are_count_starts}
 use Rattle.fsw_base.specs.declared.script_faults.FaultKind.TheVariants.{LineTooLong, BadByte, BadWord, Misplaced, OutOfRange, Repeated, TooManyApps, TooManyCalls, TooManyBytes}
 use Rattle.fsw_base.specs.declared.script_faults.ScriptFault.{ScriptFault}
-use Rattle.script_words.specs.Text.{words_of, behind_word, is_text, is_same}
+use Rattle.script_words.specs.Text.{lines_of, words_of, behind_word, is_text, is_same}
 use Rattle.script_words.specs.Lists.{each}
 use Rattle.script_words.specs.Counts.{Word, one, two, few}
 use Rattle.script_words.specs.Numbers.{number_of, within}
@@ -32,10 +32,10 @@ use Rattle.script_settings.specs.Accounts.{account_of, charge_of}
 use Rattle.app_script.specs.Script.{Application, ScriptText}
 use Rattle.app_script.specs.ScriptRanges.{limit_of}
 use Rattle.app_script.specs.ScriptRanges.{are_limits, have_new_names, is_application, IsScript}
-use Rattle.app_script.specs.Grammar.{Progress, opening, apps_of, after_version, after_set, after_sizes, after_seq, after_app, after_call, after_file, after_form, after_known, after_words, after_line, progress_of, grammar, ◌>=>◌}
+use Rattle.app_script.specs.Grammar.{Progress, opening, apps_of, after_version, after_set, after_sizes, after_seq, after_app, after_call, after_file, after_form, after_known, after_words, after_line, after_lines, progress_of, grammar, ◌>=>◌}
 use Rattle.app_script.proofs.ScriptLemmas.{list_all_push, starts_push}
-use Rattle.app_script.proofs.ReadWalk.{progress_keeps}
-use Rattle.app_script.proofs.RunRanges.{read_bounded}
+use Rattle.app_script.proofs.ReadWalk.{lines_keep, whole_read}
+use Rattle.app_script.proofs.RunRanges.{lines_bounded}
 use Rattle.app_script.proofs.InRange.{all_calls_sum, all_bytes_sum}
 
 -- ---- limits
@@ -317,19 +317,18 @@ unfolding after_line
 line_stands s line so =
     refuse Stands (nat_lt 1024 (length line)) LineTooLong _ (λ short. accept Stands (list_all is_text line) _ BadByte (λ h. words_stand s (words_of line) (behind_word line) (behind_is_text line h) so))
 
--- ---- the whole text
+-- ---- all lines
 
 some_apps : (b : Bool) (done : List Application) (present : Application) → b ≡ true → 1 ≤ length (cond b (done ++ present ∷ []) done)
 some_apps true done present h = let longer = length-append done (present ∷ []) in omega arith
 some_apps false done present h = absurd cc
 
--- what a whole text is read as is a script that a text can be
-pub read_script_is : (bytes : List ℕ) (s : Progress) → progress_of bytes ≡ Ok s → IsScript (record { limits = s.limits; apps = apps_of s })
-read_script_is bytes s read =
-    let walked = progress_keeps Stands stands_opening line_stands bytes s read in
-    let so = walked.0 in
+-- what lines from any number on are read as is a script that a text can be, where an application has begun
+pub lines_are_script : (n : ℕ) (lines : List (List ℕ)) (s : Progress) → after_lines n opening lines ≡ Ok s → s.started ≡ true → IsScript (record { limits = s.limits; apps = apps_of s })
+lines_are_script n lines s read started =
+    let so = lines_keep Stands line_stands n opening s lines stands_opening read in
     let whole = whole_apps s so s.started refl in
-    let bounded = read_bounded bytes s read in
+    let bounded = lines_bounded n lines s read in
     let calls = bounded.calls in
     let bytes = bounded.bytes in
     let same_calls = all_calls_sum (apps_of s) in
@@ -339,13 +338,19 @@ read_script_is bytes s read =
       limits = all_fit s.limits so.limits;
       sizes = so.sizes;
       starts = so.starts;
-      some = some_apps s.started s.done s.present walked.1;
+      some = some_apps s.started s.done s.present started;
       few = whole.few;
       names = whole.names;
       applications = whole.ready;
       calls = omega arith;
       bytes = omega arith;
     }
+
+-- and so is a whole text
+pub read_script_is : (bytes : List ℕ) (s : Progress) → progress_of bytes ≡ Ok s → IsScript (record { limits = s.limits; apps = apps_of s })
+read_script_is bytes s read =
+    let whole = whole_read bytes s read in
+    lines_are_script 1 (lines_of bytes) s whole.1 whole.2
 
 pub scripts : (bytes : List ℕ) (script : ScriptText) → grammar bytes ≡ Ok script → IsScript script
 unfolding grammar

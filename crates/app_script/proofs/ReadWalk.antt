@@ -7,7 +7,8 @@ use Rattle.script_words.specs.Text.{lines_of}
 use Rattle.script_lines.proofs.ReadingLaws.{Holds}
 use Rattle.app_script.specs.Grammar.{Progress, opening, after_line, after_lines, at_line, whole_fault, progress_of, ◌>=>◌}
 
-lines_keep : (P : Progress → Type 0) → ((s : Progress) (line : List ℕ) → P s → Holds P (after_line s line)) → (n : ℕ) (s t : Progress) (lines : List (List ℕ)) → P s → after_lines n s lines ≡ Ok t → P t
+-- lines from any number on
+pub lines_keep : (P : Progress → Type 0) → ((s : Progress) (line : List ℕ) → P s → Holds P (after_line s line)) → (n : ℕ) (s t : Progress) (lines : List (List ℕ)) → P s → after_lines n s lines ≡ Ok t → P t
 unfolding after_lines
 lines_keep P step n s t [] kept e =
     let same : s ≡ t = cc in
@@ -38,8 +39,3 @@ whole_read bytes t e = decide (nat_lt 1048576 (length bytes)) refl (whole_fault 
     decide false size large fault h =
         let well = ended_well (after_lines 1 opening (lines_of bytes)) t fault h in
         (ltb-false 1048576 (length bytes) size, well.0, well.1)
-
-pub progress_keeps : (P : Progress → Type 0) → P opening → ((s : Progress) (line : List ℕ) → P s → Holds P (after_line s line)) → (bytes : List ℕ) (t : Progress) → progress_of bytes ≡ Ok t → P t × (t.started ≡ true)
-progress_keeps P first step bytes t e =
-    let read = whole_read bytes t e in
-    (lines_keep P step 1 opening t (lines_of bytes) first read.1, read.2)

@@ -17,9 +17,9 @@ use Rattle.app_script.specs.Forms.{form_in, is_misplaced}
 use Rattle.script_settings.specs.Settings.{is_among, set_of, sizes_of, seq_of, app_of, script_of}
 use Rattle.script_settings.specs.Accounts.{account_of, charge_of, budget_of}
 use Rattle.app_script.specs.Script.{Application, ScriptText}
-use Rattle.app_script.specs.Grammar.{Progress, opening, apps_of, after_version, after_set, after_sizes, after_seq, after_app, after_call, after_file, after_form, after_known, after_words, after_line, progress_of}
+use Rattle.app_script.specs.Grammar.{Progress, opening, apps_of, after_version, after_set, after_sizes, after_seq, after_app, after_call, after_file, after_form, after_known, after_words, after_line, after_lines}
 use Rattle.app_script.proofs.ScriptLemmas.{account_of_push}
-use Rattle.app_script.proofs.ReadWalk.{progress_keeps}
+use Rattle.app_script.proofs.ReadWalk.{lines_keep}
 
 -- how many lines and bytes an application has
 abbrev lines_in : Application → ℕ
@@ -133,16 +133,16 @@ line_keeps : (s : Progress) (line : List ℕ) → Kept s → Holds Kept (after_l
 unfolding after_line
 line_keeps s line kept = refuse Kept (nat_lt 1024 (length line)) LineTooLong _ (λ h. either Kept (list_all is_text line) _ _ (words_keep s (words_of line) (behind_word line) kept) tt)
 
--- ---- the whole text
+-- ---- all lines
 
 -- a script has at most so many call lines and charges
 pub record Bounded (script : ScriptText) : Type 0 where
   pub calls : sum_by lines_in script.apps ≤ 20000
   pub bytes : sum_by bytes_in script.apps ≤ 16777216
 
-pub read_bounded : (bytes : List ℕ) (s : Progress) → progress_of bytes ≡ Ok s → Bounded (record { limits = s.limits; apps = apps_of s })
-read_bounded bytes s so =
-    let kept = (progress_keeps Kept kept_opening line_keeps bytes s so).0 in
+pub lines_bounded : (n : ℕ) (lines : List (List ℕ)) (s : Progress) → after_lines n opening lines ≡ Ok s → Bounded (record { limits = s.limits; apps = apps_of s })
+lines_bounded n lines s so =
+    let kept = lines_keep Kept line_keeps n opening s lines kept_opening so in
     let whole = whole_apps s kept s.started in
     let few = kept.few in
     let light = kept.light in

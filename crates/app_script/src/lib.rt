@@ -28,6 +28,8 @@
 //! - Every `Script` keeps its ranges (`IsScript`, `IsInRange`; `recall_ranges`), and so does all
 //!   that the grammar gives (`read_scripts_are_in_range`). `Script::new` and `App::of_lines` make a
 //!   script of parts, for a caller who proves the ranges.
+//! - `Reading` reads a script line by line, for a text of which the script is a part: each line
+//!   leaves what the grammar says (`after_line`), or its first fault.
 //!
 //! Tested: a script, and one with a fault; 220 scripts by `rows_faults`.
 #![tactic(auto)]
@@ -43,5 +45,6 @@ pub use app::App;
 pub use fail::ReadFail;
 pub use forms::Form;
 pub use laws::{read_scripts_are_in_range, texts_are_scripts};
+pub use reading::Reading;
 pub use script::{Script, read_script};
 pub use script_lines::{BoxedRules, ByteText, Content, Line, MAX_RULES, Rule, RuleList};

@@ -30,9 +30,11 @@ const MAX_CALLS: u32 = 20000;
 // How many bytes the charges of a script may come to.
 const MAX_CHARGE: usize = 16_777_216;
 
-/// What was read of a script so far.
+/// A script that is read line by line: what its lines told so far. It is for a text of which the
+/// script is a part, and whose lines are numbered as a whole; [`crate::read_script`] reads a script
+/// that stands alone.
 #[derive(Drop)]
-pub(crate) struct Reading {
+pub struct Reading {
     // A line that isn't skipped came before.
     begun: bool,
     // The version and the limits, without the counts at which ids start.
@@ -97,13 +99,16 @@ impl Reading {
     ghost use Rattle.app_script.specs.Grammar.{opening, after_version, after_set, after_sizes, after_seq, apps_of, after_app, after_call, after_file, after_form, after_known, after_words, after_line};
     ghost use Rattle.script_words.specs.Text.{words_of, behind_word};
 
-    /// Nothing was read yet.
+    /// A script of which no line was read yet.
+    ///
+    /// # Errors
+    /// Where memory runs out.
     #[tactic(auto, unfolding(script_settings::specs::Accounts::account_of))]
-    pub(crate) fn new(alloc: Global, name: ByteText) -> Reading
-        requires { name ≡ [] }
-        ensures { result ≡ opening }
+    pub fn new(alloc: Global) -> Result<Reading, AllocError>
+        ensures { IfOk result (λ reading. reading ≡ opening) }
     {
-        Reading {
+        let nobody = ByteText::new(alloc, &[])?;
+        Ok(Reading {
             begun: false,
             config: Config::usual(),
             named: Vec::new(alloc),
@@ -111,10 +116,10 @@ impl Reading {
             starts: ArrayVec::new(),
             started: false,
             done: Vec::new(alloc),
-            present: App::new(alloc, name),
+            present: App::new(alloc, nobody),
             calls: 0,
             charged: 0,
-        }
+        })
     }
 
     // script VERSION
@@ -179,8 +184,8 @@ impl Reading {
             || (self.started && is_same(self.present.name(), name))
     }
 
-    // How many applications there are so far.
-    fn app_count(&self) -> usize
+    /// How many applications there are so far, at most 16.
+    pub fn app_count(&self) -> usize
         ensures { result ≡ length (apps_of self.now) }
     {
         if self.started {
@@ -309,9 +314,14 @@ impl Reading {
         }
     }
 
-    /// The next line; `plain` says that its bytes are known to be text.
+    /// Reads the next line; `plain` says that its bytes are known to be text. After a failure the
+    /// reading is of no use.
+    ///
+    /// # Errors
+    /// `Fault` where the line is faulty, with its first fault in the order of [`FaultKind`].
+    /// `Memory` where memory runs out.
     #[tactic(auto, unfolding(crate::specs::Grammar::after_line))]
-    pub(crate) fn line(&mut self, alloc: Global, line: &[u8], plain: bool) -> Result<(), LineFail>
+    pub fn line(&mut self, alloc: Global, line: &[u8], plain: bool) -> Result<(), LineFail>
         requires { IsTrue plain → IsTrue (list_all is_text line.now) }
         ensures { Moves result self.new (after_line self.old line.now) }
     {
@@ -325,14 +335,17 @@ impl Reading {
     }
 
     /// Whether an application has begun.
-    pub(crate) fn has_started(&self) -> bool
+    pub fn has_started(&self) -> bool
         ensures { result ≡ self.now.started }
     {
         self.started
     }
 
-    /// The script that was read, where an application has begun.
-    pub(crate) fn into_script(self) -> Result<Script, AllocError>
+    /// The script that was read, where an application has begun. Its lines told one in its ranges.
+    ///
+    /// # Errors
+    /// Where memory runs out.
+    pub fn into_script(self) -> Result<Script, AllocError>
         requires text { IsScript (record { limits = self.limits; apps = apps_of self }) }
         requires started { IsTrue self.started }
         ensures { IfOk result

@@ -12,8 +12,8 @@ use crate::fail::ReadFail;
 use crate::reading::Reading;
 use fsw_base::{AppNo, Budget, Config, FaultKind, MAX_SCRIPT_BYTES, ScriptFault};
 use script_lines::Line;
+use script_words::LineFail;
 use script_words::text::{are_plain, first_line};
-use script_words::{ByteText, LineFail};
 use std::alloc::Global;
 use std::marker::Model;
 
@@ -188,8 +188,7 @@ fn read_all(alloc: Global, reading: &mut Reading, bytes: &[u8]) -> Result<(), Re
 pub fn read_script(alloc: Global, bytes: &[u8]) -> Result<Script, ReadFail>
     ensures { GivesScript result (grammar bytes.now) }
 {
-    let nobody = ByteText::new(alloc, &[])?;
-    let mut reading = Reading::new(alloc, nobody);
+    let mut reading = Reading::new(alloc)?;
     read_all(alloc, &mut reading, bytes)?;
     Ok(reading.into_script()?)
 }

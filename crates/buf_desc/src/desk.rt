@@ -17,6 +17,7 @@ use crate::slot::{
 use es_pool::Pool;
 use fsw_base::{BlockSizes, EsStatus};
 use lend_block::View;
+use ruled_out::surely_some;
 use std::alloc::{AllocError, Global};
 use std::marker::Model;
 use step_count::{Ledger, Steps};
@@ -217,7 +218,7 @@ impl<'r> Desk<'r> {
             })) }
         ensures cost { steps.new ≤ steps.old + 8 }
     {
-        let desc = self.pool.try_draw(bytes.len() as u32, steps).unwrap();
+        let desc = surely_some(self.pool.try_draw(bytes.len() as u32, steps));
         self.pool.recall_whole();
         let space = memory_of(&self.pool, &mut self.slots, &mut self.rest, desc);
         let sent = sealed_copy(space, desc, number, bytes, count);
@@ -254,7 +255,7 @@ impl<'r> Desk<'r> {
     {
         let desc = block.desc();
         put_free(&mut self.slots, desc, block.into_space());
-        self.pool.put(desc, steps).unwrap();
+        self.pool.take_back(desc, steps);
     }
 
     /// Counts one use more of a sealed block.
@@ -310,7 +311,7 @@ impl<'r> Desk<'r> {
             return;
         }
         reopen(&mut self.slots, desc);
-        self.pool.put(desc, steps).unwrap();
+        self.pool.take_back(desc, steps);
     }
 
     /// Takes back the view that a use of a sealed block had, and counts that use no more. Where it
@@ -327,7 +328,7 @@ impl<'r> Desk<'r> {
     {
         if let_use_go(&mut self.slots, desc, view) {
             reopen(&mut self.slots, desc);
-            self.pool.put(desc, steps).unwrap();
+            self.pool.take_back(desc, steps);
         }
     }
 
@@ -344,7 +345,7 @@ impl<'r> Desk<'r> {
             return;
         }
         reopen(&mut self.slots, desc);
-        self.pool.put(desc, steps).unwrap();
+        self.pool.take_back(desc, steps);
     }
 
     /// Counts so many uses of a sealed block that has none, and of which no view is out. Where
@@ -364,7 +365,7 @@ impl<'r> Desk<'r> {
             return;
         }
         reopen(&mut self.slots, desc);
-        self.pool.put(desc, steps).unwrap();
+        self.pool.take_back(desc, steps);
     }
 
     /// How many uses a sealed block has.

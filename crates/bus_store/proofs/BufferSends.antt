@@ -36,7 +36,7 @@ use Rattle.bus_store.proofs.Accounts.{OutAlone, held_law, held_now, alone_as, al
 use Rattle.bus_store.proofs.Drops.{AreGone, are_loose, all_gone, gone_backed}
 use Rattle.bus_store.proofs.Lasts.{AreLike, HasDue, holds_like, like_delivered}
 use Rattle.bus_store.proofs.BufferLists.{mine_open, listed_kept, unsent_kept, descs_kept}
-use Rattle.bus_store.proofs.Meaning.{message_of}
+use Rattle.bus_store.proofs.RowChanges.{message_of}
 use Rattle.bus_store.proofs.ListChanges.{list_of, listed_fewer, unsent_fewer, desc_fewer, others_fewer, bag_fewer}
 use Rattle.bus_store.proofs.Sends.{Begins, IsSent, is_sent}
 use Rattle.bus_store.proofs.Stores.{length-deliver}

@@ -12,8 +12,9 @@ pub mod EmptyPipes
 pub mod FirstReceives
 pub mod Items
 pub mod Lasts
+pub mod LentBuffers
 pub mod ListChanges
-pub mod Meaning
+pub mod RowChanges
 pub mod NewBlocks
 pub mod NewBuffers
 pub mod NewPipes

@@ -8,7 +8,7 @@ use Rattle.es_pool.specs.Pool.{DrawsFor, size_at}
 use Rattle.buf_desc.specs.Block.{Unsent as UnsentBlock, Sealed as SealedBlock}
 use Rattle.buf_desc.specs.Slots.{slot_at, sealed_in, is_sealed, is_live, number_in, HaveOwnNumbers}
 use Rattle.buf_desc.specs.Desk.{Buffers, Takes, IsOf, placed, sealed}
-use Rattle.buf_desc.proofs.Copied.{placed_here, placed_again}
+use Rattle.buf_desc.proofs.Copies.{placed_here, placed_again}
 use Rattle.buf_desc.specs.declared.slot.Slot.TheVariants.{Unsent, Sealed}
 use Rattle.buf_desc.proofs.Others.{slot_drawn, numbers_drawn, numbers_changed}
 use Rattle.bus_words.specs.Acts.{NextCount, next_in}

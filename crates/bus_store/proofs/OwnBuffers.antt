@@ -13,13 +13,17 @@ use Rattle.buf_desc.specs.Slots.{slot_at, is_open, number_in, asked_in}
 use Rattle.buf_desc.specs.declared.slot.Slot.TheVariants.{Unsent}
 use Rattle.bus_words.specs.Bus.{Buffer, has_unsent, unsent_size}
 use Rattle.bus_store.specs.declared.store.BusStore.TheInside.{Inside}
-use Rattle.bus_store.specs.Bag.{Shape, shape_of, buffer_due, HoldsBuffers}
-use Rattle.bus_store.specs.Store.{Store}
+use Rattle.bus_store.specs.Bag.{Shape, shape_of, buffer_due, HoldsBuffers, HoldsBuffer}
+use Rattle.bus_store.specs.Store.{Store, BufferDesc}
 use Rattle.bus_store.specs.Words.{size_for}
 use Rattle.bus_store.specs.Inside.{store_of, Keeps, Seals, unsent_in, descs_in}
 use Rattle.bus_store.proofs.BufferLists.{IsMember, mine_block, mine_open, mine_found}
 use Rattle.bus_store.proofs.ListChanges.{list_of, due_found}
 use Rattle.bus_store.proofs.Ties.{open_is, open_live}
+
+-- a bag that has all the blocks has that of each number
+pub one_held : (unsent : List (List Buffer)) (descs : List BufferDesc) (sizes : List ℕ) (app : ℕ) (bag : Holding LentBytes) (number : ℕ) → HoldsBuffers unsent descs sizes app bag → HoldsBuffer unsent descs sizes app bag number
+one_held unsent descs sizes app bag number holds = record { known = holds.known; due = holds.due number }
 
 -- what stands in a list stands in one that is there
 pub list_there : (lists : List (List ℕ)) (i d : ℕ) → 0 < times_in (get_or lists i []) d → i < length lists
@@ -70,13 +74,13 @@ module _ (a : Inside) (old : Store) (app buf : ℕ) (viewed : store_of a ≡ old
       ∙ ap (unsent_size (unsent_in a.desk.slots a.lists.lists) app) (sym numbered)
       ∙ ap (λ o. option_map_or {U = ℕ} (λ (b : Buffer). b.size) o 0) (mine_found a.desk.slots a.lists.lists keeps.listed keeps.backed.tied.numbers app desc mine)
 
-  module _ (held : Holding LentBytes) (holds : HoldsBuffers old.unsent old.descs old.account.sizes app held) where
+  module _ (held : Holding LentBytes) (holds : HoldsBuffer old.unsent old.descs old.account.sizes app held buf) where
     abbrev shape : Shape
     shape = record { desc = desc; size = size_for a.desk.pool.sizes (asked_in (slot_at a.desk.slots desc)); asked = asked_in (slot_at a.desk.slots desc) }
 
     due_is : option_map shape_of (buffer_at held buf) ≡ Some shape
     due_is =
-        holds.due buf
+        holds.due
         ∙ ap (λ (o : Store). buffer_due o.unsent o.descs o.account.sizes app buf) (sym viewed)
         ∙ ap (buffer_due (unsent_in a.desk.slots a.lists.lists) (descs_in a.desk.slots a.lists.lists) a.desk.pool.sizes app) (sym numbered)
         ∙ due_found a.desk.slots a.lists.lists keeps.listed keeps.backed.tied.numbers a.desk.pool.sizes app desc mine

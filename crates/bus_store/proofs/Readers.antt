@@ -1,5 +1,6 @@
 -- What is asked of one pipe.
-use Rattle.std.proofs.Common.{◌≡◌, ℕ, Bool, true, false, cond, eqb, List, map, find, Option, Some, None, refl, ap, ◌∙◌}
+use Rattle.std.proofs.Common.{◌≡◌, ℕ, Bool, true, false, cond, eqb, List, length, map, find, Option, Some, None, refl, ap, ◌∙◌}
+use Rattle.std.proofs.lemmas.List.{length-map}
 use Rattle.std.specs.Option.{option_map}
 use Rattle.std.specs.Str.{bytes_eq}
 use Rattle.fsw_base.proofs.Lists.{find-map}
@@ -19,6 +20,15 @@ twice read f (Some row) = refl
 pub at_number : {X : Type 0} (read : ItemRow → Item) (f : Pipe → X) (rows : List Row) (number : ℕ) →
     option_map f (pipe_at (map (pipe_by read) rows) number) ≡ option_map (λ row. f (pipe_by read row)) (pipe_at rows number)
 at_number read f rows number = ap (option_map f) (find-map (λ (pipe : Pipe). eqb pipe.number number) (pipe_by read) rows) ∙ twice read f (pipe_at rows number)
+
+-- how many messages wait on it
+pub waiting_on_it : (read : ItemRow → Item) (rows : List Row) (number : ℕ) →
+    option_map (λ (pipe : Pipe). length pipe.queue) (pipe_at (map (pipe_by read) rows) number) ≡ option_map (λ (row : Row). length row.queue) (pipe_at rows number)
+waiting_on_it read rows number = at_number read (λ (pipe : Pipe). length pipe.queue) rows number ∙ by_row (pipe_at rows number)
+  where
+    by_row : (o : Option Row) → option_map (λ (row : Row). length (pipe_by read row).queue) o ≡ option_map (λ (row : Row). length row.queue) o
+    by_row None = refl
+    by_row (Some row) = ap Some (length-map row.queue read)
 
 -- of the one of a name
 pub at_name : {X : Type 0} (read : ItemRow → Item) (f : Pipe → X) (rows : List Row) (name : List ℕ) →

@@ -26,7 +26,7 @@ use Rattle.bus_store.specs.Blocks.{IsGiven}
 use Rattle.bus_store.specs.Inside.{pipes_in, loan_in, account_in, AllItems, IsNamed, lasts_of, AreTied, Backed, Seals, returned, after_send}
 use Rattle.bus_store.proofs.Drops.{HaveLoose}
 use Rattle.bus_store.proofs.Items.{items_weaker, items_both, items_delivered, items_dropped, no_uses, unused, queue_unused, lasts_few, lasts_delivered}
-use Rattle.bus_store.proofs.Meaning.{IsSending, message_of, deliver-rows, reached-rows, drops-rows, missed-rows}
+use Rattle.bus_store.proofs.RowChanges.{IsSending, message_of, deliver-rows, reached-rows, drops-rows, missed-rows}
 use Rattle.bus_store.proofs.Pool.{returned_for}
 use Rattle.bus_store.proofs.Ties.{Stays, Moves, sealed_live, sealed_number, here_set, others_set, stays_apart, stays_freed, pipes_stay, named_stay, loans_stay, tied_moved, tied_freed}
 

@@ -21,13 +21,13 @@ use Rattle.bus_store.specs.declared.store.BusStore.TheInside.{Inside}
 use Rattle.bus_store.specs.Store.{Store, LastLoan, BufferDesc}
 use Rattle.bus_store.specs.Words.{next_of, reads_of, sending_of, missed, counted_up, with_held}
 use Rattle.bus_store.specs.Inside.{AreLoose, all_dropped, store_of, Keeps, Backed, Seals, Adds, account_in, pipes_in, descs_in, loan_in, after_send}
-use Rattle.buf_desc.proofs.Copied.{length-counted}
+use Rattle.buf_desc.proofs.Copies.{length-counted}
 use Rattle.lend_block.specs.Loan.{LentBytes}
 use Rattle.buf_desc.specs.Held.{Holding}
 use Rattle.bus_store.proofs.Accounts.{OutAlone, held_law, held_now, alone_as, alone_then, sent_alone}
 use Rattle.bus_store.proofs.Drops.{AreGone, are_loose, all_gone, gone_backed}
 use Rattle.bus_store.proofs.Lasts.{AreLike, HasDue, holds_like, like_delivered}
-use Rattle.bus_store.proofs.Meaning.{message_of}
+use Rattle.bus_store.proofs.RowChanges.{message_of}
 use Rattle.bus_store.proofs.BufferLists.{listed_kept, unsent_kept, descs_kept}
 use Rattle.bus_store.proofs.Pool.{IsDrawn, drawn_for, most_drawn}
 use Rattle.bus_store.proofs.Sends.{Begins, IsSent, is_sent}

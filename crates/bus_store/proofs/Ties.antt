@@ -18,7 +18,7 @@ use Rattle.bus_tables.specs.Rows.{Row}
 use Rattle.bus_store.specs.Blocks.{IsGiven}
 use Rattle.bus_store.specs.Inside.{item_in, pipes_in, loan_at, loan_in, account_in, OfItems, AllItems, IsNamed, AreTied}
 use Rattle.bus_store.proofs.Items.{items_weaker}
-use Rattle.bus_store.proofs.Meaning.{pipes_alike}
+use Rattle.bus_store.proofs.RowChanges.{pipes_alike}
 use Rattle.bus_store.proofs.Pool.{returned_for, class_given_back}
 
 -- Slots. --

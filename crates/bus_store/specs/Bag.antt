@@ -1,6 +1,6 @@
 -- What an application has in its bag of the messages that it received, and of the buffers that it
 -- hasn't sent.
-use Rattle.std.specs.Prelude.{◌≡◌, ℕ, ◌≤◌, ◌==◌, ◌&&◌, List, length, count_by, is_some, Option, None, if◌then◌else◌}
+use Rattle.std.specs.Prelude.{◌≡◌, ℕ, ◌≤◌, ◌==◌, ◌&&◌, ◌++◌, List, length, count_by, is_some, Option, None, if◌then◌else◌}
 use Rattle.std.specs.Option.{option_map}
 use Rattle.lend_block.specs.Loan.{LentBytes}
 use Rattle.bus_words.specs.Bus.{Pipe, Buffer, owns, unsent_at}
@@ -68,3 +68,20 @@ pub record HoldsBuffers (unsent : List (List Buffer)) (descs : List BufferDesc) 
   pub known : 1 ≤ app
   pub due : (number : ℕ) →
       option_map shape_of (buffer_at bag number) ≡ buffer_due unsent descs sizes app number
+
+-- the bag with the blocks put back that are lent out of it
+abbrev pub with_lent : Holding LentBytes → List Unsent → Holding LentBytes
+with_lent bag lent = record bag { buffers = lent ++ bag.buffers }
+
+-- for this number the bag has the block of the application's unsent buffer, where it has one
+pub record HoldsBuffer (unsent : List (List Buffer)) (descs : List BufferDesc) (sizes : List ℕ)
+    (app : ℕ) (bag : Holding LentBytes) (number : ℕ) : Type 0 where
+  pub known : 1 ≤ app
+  pub due : option_map shape_of (buffer_at bag number) ≡ buffer_due unsent descs sizes app number
+
+-- with the blocks that are lent out put back, the bag has those of the application's unsent
+-- buffers, and no others
+pub record HoldsBuffersInPart (unsent : List (List Buffer)) (descs : List BufferDesc)
+    (sizes : List ℕ) (app : ℕ) (bag : Holding LentBytes) : Type 0 where
+  pub lent : List Unsent
+  pub holds : HoldsBuffers unsent descs sizes app (with_lent bag lent)

@@ -1,12 +1,13 @@
 //! Buffers that applications are given, and send or give back (cFE Software Bus, zero copy).
-ghost use Rattle.std.specs.Prelude.{◌≡◌, ◌≢◌, ℕ, ◌+◌, ◌*◌, ◌<◌, ◌≤◌, ◌^◌, true, false, List, [], Some, None, length, replicate, IfSome, IsNone};
+ghost use Rattle.std.specs.Prelude.{◌≡◌, ◌≢◌, ℕ, ◌==◌, find, ◌+◌, ◌*◌, ◌<◌, ◌≤◌, ◌^◌, true, false, List, [], Some, None, length, replicate, IfSome, IsNone};
 ghost use Rattle.ccsds_msg.specs.Message.{message_id, front_fault};
 ghost use Rattle.fsw_base.specs.PoolAccounts.{has_room, after_request};
 ghost use Rattle.lend_block.specs.Loan.{LentBytes};
 ghost use Rattle.buf_desc.specs.Held.{Holding, buffer_at, bytes_at, with_bytes_at};
+ghost use Rattle.buf_desc.specs.Block.{Unsent};
 ghost use Rattle.bus_words.specs.Bus.{Pipe, Buffer, route, deliver, reached, drops, missed, has_unsent, unsent_of, with_unsent, without_unsent, without_all_unsent};
 ghost use Rattle.bus_tables.specs.Rows.{has_way};
-ghost use Rattle.bus_store.specs.Bag.{HoldsViews, HoldsBuffers};
+ghost use Rattle.bus_store.specs.Bag.{HoldsViews, HoldsBuffers, HoldsBuffer, HoldsBuffersInPart, with_lent};
 ghost use Rattle.bus_store.specs.Store.{LastLoan, BufferDesc};
 ghost use Rattle.bus_store.specs.Words.{desc_of, passing_of, counted_up, with_held};
 
@@ -46,7 +47,7 @@ impl<'r> BusStore<'r> {
         requires app { app ≤ length self.old.unsent }
         requires room { has_room self.old.account size ≡ true }
         requires number { self.old.numbers_given + 1 < 2 ^ 64 }
-        requires bag { HoldsBuffers self.old.unsent self.old.descs self.old.account.sizes app
+        requires bag { HoldsBuffersInPart self.old.unsent self.old.descs self.old.account.sizes app
             held.old }
         requires bag_room { length held.old.buffers < held.old.buffer_room }
         ensures number { result ≡ self.old.numbers_given + 1 }
@@ -60,8 +61,11 @@ impl<'r> BusStore<'r> {
         } }
         ensures descs { (other : ℕ) → result ≢ other →
             desc_of self.new.descs other ≡ desc_of self.old.descs other }
-        ensures bag { HoldsBuffers self.new.unsent self.new.descs self.new.account.sizes app
-            held.new }
+        ensures bag { (lent : List Unsent) →
+            HoldsBuffers self.old.unsent self.old.descs self.old.account.sizes app
+            (with_lent held.old lent) →
+            HoldsBuffers self.new.unsent self.new.descs self.new.account.sizes app
+            (with_lent held.new lent) }
         ensures other_bags { (other : ℕ) (bag : Holding LentBytes) → other ≢ app →
             HoldsBuffers self.old.unsent self.old.descs self.old.account.sizes other bag →
             HoldsBuffers self.new.unsent self.new.descs self.new.account.sizes other bag }
@@ -99,8 +103,8 @@ impl<'r> BusStore<'r> {
         steps: &mut Steps<L>,
     ) -> Sent
         requires has { has_unsent self.old.unsent app buf ≡ true }
-        requires bag { HoldsBuffers self.old.unsent self.old.descs self.old.account.sizes app
-            held.old }
+        requires bag { HoldsBuffer self.old.unsent self.old.descs self.old.account.sizes app
+            held.old buf }
         requires message { front_fault (bytes_at held.old buf) ≡ None }
         requires way { has_way self.old.routes (message_id (bytes_at held.old buf)) ≡ true }
         ensures number { result.number ≡ buf }
@@ -121,8 +125,11 @@ impl<'r> BusStore<'r> {
         } }
         ensures descs { (other : ℕ) → buf ≢ other →
             desc_of self.new.descs other ≡ desc_of self.old.descs other }
-        ensures bag { HoldsBuffers self.new.unsent self.new.descs self.new.account.sizes app
-            held.new }
+        ensures bag { (lent : List Unsent) → find (λ block. block.number == buf) lent ≡ None →
+            HoldsBuffers self.old.unsent self.old.descs self.old.account.sizes app
+            (with_lent held.old lent) →
+            HoldsBuffers self.new.unsent self.new.descs self.new.account.sizes app
+            (with_lent held.new lent) }
         ensures other_bags { (other : ℕ) (bag : Holding LentBytes) → other ≢ app →
             HoldsBuffers self.old.unsent self.old.descs self.old.account.sizes other bag →
             HoldsBuffers self.new.unsent self.new.descs self.new.account.sizes other bag }
@@ -174,8 +181,8 @@ impl<'r> BusStore<'r> {
         steps: &mut Steps<L>,
     )
         requires has { has_unsent self.old.unsent app buf ≡ true }
-        requires bag { HoldsBuffers self.old.unsent self.old.descs self.old.account.sizes app
-            held.old }
+        requires bag { HoldsBuffer self.old.unsent self.old.descs self.old.account.sizes app
+            held.old buf }
         ensures after { self.new ≡ record self.old {
           unsent = without_unsent self.old.unsent app buf;
           account = with_held self.old.account self.old.pipes self.new.unsent
@@ -184,8 +191,11 @@ impl<'r> BusStore<'r> {
         } }
         ensures descs { (other : ℕ) → buf ≢ other →
             desc_of self.new.descs other ≡ desc_of self.old.descs other }
-        ensures bag { HoldsBuffers self.new.unsent self.new.descs self.new.account.sizes app
-            held.new }
+        ensures bag { (lent : List Unsent) → find (λ block. block.number == buf) lent ≡ None →
+            HoldsBuffers self.old.unsent self.old.descs self.old.account.sizes app
+            (with_lent held.old lent) →
+            HoldsBuffers self.new.unsent self.new.descs self.new.account.sizes app
+            (with_lent held.new lent) }
         ensures other_bags { (other : ℕ) (bag : Holding LentBytes) → other ≢ app →
             HoldsBuffers self.old.unsent self.old.descs self.old.account.sizes other bag →
             HoldsBuffers self.new.unsent self.new.descs self.new.account.sizes other bag }

@@ -53,9 +53,11 @@
 //!   4 for each subscription, 8 for each dropped message and 32 more, and 16. `release_all` gives
 //!   back all of an application's, at most 16 for each and 16 more.
 //! - If a bag has what is due to its application and nothing else, it has so after each call
-//!   (`HoldsViews`, `HoldsBuffers`; clauses `bag`, `bags`, `other_bags`). `receivers_share_views`:
-//!   two applications whose pipes received one send last have the same view of it, by the same
-//!   loan.
+//!   (`HoldsViews`, `HoldsBuffers`; clauses `bag`, `bags`, `other_bags`). Blocks may be lent out of
+//!   the bag: `transmit_buffer` and `release` ask for the buffer's own block there, `allocate` for
+//!   what is due once all are put back, and the bag has what is due once they are put back.
+//!   `receivers_share_views`: two applications whose pipes received one send last have the same
+//!   view of it, by the same loan.
 //! - As many blocks of each size are out as numbers are held whose block has that size, and nothing
 //!   else of the account changes but what a draw counts (`with_held`). `desk` shows the blocks: one
 //!   for each number that is held and no others, sealed with the send's message, with as many uses

@@ -58,6 +58,13 @@ impl<'r> BusStore<'r> {
         self.tables.find(name)
     }
 
+    /// How many messages wait on the live pipe of this number. None if no such pipe is live.
+    pub fn waiting_count(&self, number: u32) -> Option<u32>
+        ensures { result ≡ option_map (λ pipe. length pipe.queue) (pipe_at self.now.pipes number) }
+    {
+        self.tables.waiting_count(number)
+    }
+
     /// The send number of the message that waits longest on the live pipe of this number.
     pub fn oldest(&self, number: u32) -> Option<u64>
         ensures { result ≡ option_map (λ item. item.number) (oldest_on self.now.pipes number) }

@@ -1,5 +1,6 @@
 -- What is read off the three tables is what contracts see of them.
-use Rattle.std.proofs.Common.{◌≡◌, ℕ, ◌+◌, Bool, true, false, ◌&&◌, ◌||◌, cond, eqb, List, [], ◌∷◌, map, find, Option, Some, None, is_some, refl, ap, sym, ◌∙◌}
+use Rattle.std.proofs.Common.{◌≡◌, ℕ, ◌+◌, Bool, true, false, ◌&&◌, ◌||◌, cond, eqb, List, [], ◌∷◌, length, map, find, Option, Some, None, is_some, refl, ap, sym, ◌∙◌}
+use Rattle.std.proofs.lemmas.List.{length-map}
 use Rattle.std.specs.List.{list_any}
 use Rattle.std.specs.Option.{option_map, option_and_then}
 use Rattle.std.specs.Str.{bytes_eq}
@@ -34,6 +35,11 @@ bits_there rows number = told_there (λ row. eqb row.number number) (λ row. row
 pub name_there : (rows : List (PipeOf Item)) (number : ℕ) →
     ◌≡◌ {A = Option (List ℕ)} (option_map (λ row. row.name) (pipe_at rows number)) (option_map (λ row. row.name) (pipe_at (map row_in rows) number))
 name_there rows number = told_there (λ row. eqb row.number number) (λ row. row.name) (λ row. row.name) (λ row. refl) rows
+
+-- how many items wait on it
+pub waiting_there : (rows : List (PipeOf Item)) (number : ℕ) →
+    ◌≡◌ {A = Option ℕ} (option_map (λ row. length row.queue) (pipe_at rows number)) (option_map (λ row. length row.queue) (pipe_at (map row_in rows) number))
+waiting_there rows number = told_there (λ row. eqb row.number number) (λ row. length row.queue) (λ row. length row.queue) (λ row. sym (length-map row.queue item_in)) rows
 
 -- the number of the first pipe of a name
 pub find_there : (rows : List (PipeOf Item)) (name : List ℕ) →

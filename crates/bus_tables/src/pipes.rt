@@ -66,6 +66,13 @@ impl BusTables {
         self.pipes.first_of(app)
     }
 
+    /// How many messages wait on the live pipe of this number. None if no such pipe is live.
+    pub fn waiting_count(&self, number: u32) -> Option<u32>
+        ensures { result ≡ option_map (λ row. length row.queue) (pipe_at self.now.pipes number) }
+    {
+        self.pipes.waiting_count(number)
+    }
+
     /// What waits longest on the live pipe of this number.
     pub fn oldest(&self, number: u32) -> Option<ItemRow>
         ensures { result ≡ oldest_on self.now.pipes number }

@@ -23,6 +23,7 @@ pub mod PipeItems
 pub mod PoolGrants
 pub mod Readings
 pub mod Replay
+pub mod Standings
 pub mod Statistics
 pub mod Steps
 pub mod Ties

@@ -33,6 +33,7 @@
 //! - `pools_are_counted`, `draws_are_counted`, `bytes_are_of_sends`: the accounts of applications'
 //!   pools and of the bus's pool add up after every history. `pool_counts_are_read`: a pool's
 //!   requests and errors are counted off the history.
+//! - `applications_stay`: no call changes how many applications there are.
 //! - `ends_leave_nothing`: an application that has ended owns no live pipe; if all have ended, no
 //!   send is held and every block is back.
 //! - `events_are_told`, `statistics_are_counted`: the event desk, counters and peaks are those of
@@ -45,6 +46,7 @@
 //! Tested: it can be opened; each kind of call is read back as it prints.
 #![tactic(auto)]
 
+mod app_laws;
 mod calls;
 mod history;
 mod journal;
@@ -57,6 +59,7 @@ mod pool_laws;
 mod receipts;
 mod verdict;
 
+pub use app_laws::applications_stay;
 pub use calls::{BusAnswer, BusCall, BusEntry, LentEntry};
 pub use history::{Call, Entry};
 pub use journal::BusJournal;

@@ -38,6 +38,6 @@ mod reading;
 mod writing;
 
 pub use command::{function_code, set_function_code};
-pub use packet::{Header, MsgFault};
+pub use packet::{COUNTS, Header, MsgFault};
 pub use reading::{count_of, front, id_of, read_header, size_of};
 pub use writing::{set_count, write_header};

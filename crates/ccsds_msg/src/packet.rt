@@ -1,7 +1,7 @@
 //! The header of a packet, and why bytes are no packet.
 
 /// How many sequence counts there are, 14 bits (section 4.1.3.4.3). The flags stand above them.
-pub(crate) const COUNTS: u16 = 16384;
+pub const COUNTS: u16 = 16384;
 
 /// The largest message id: version number 0, and all other bits of the first word (section 4.1.3.2
 /// and 4.1.3.3).

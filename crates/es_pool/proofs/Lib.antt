@@ -3,6 +3,7 @@ pub mod ClassChoice
 pub mod Keeps
 pub mod Law
 pub mod Marks
+pub mod Places
 pub mod Rooms
 pub mod Sizes
 pub mod SureFits

@@ -14,7 +14,7 @@ pub type BlockNo = u32;
 #[derive(Clone, Copy)]
 pub struct CutBlock {
     /// Its size, by the place of this size among the pool's block sizes.
-    pub class: u32,
+    pub class: u8,
     /// Whether it is out: drawn, and not given back since.
     pub out: bool,
 }

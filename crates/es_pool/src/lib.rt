@@ -23,11 +23,15 @@
 //!
 //! - `get` answers a block that wasn't out if and only if it fits (`fits`), of the smallest size
 //!   that is large enough, a free one first. `put` gives it back in its own size, or is refused if
-//!   and only if it was never cut or is free. If a block was cut, the rest sufficed
-//!   (`rest_sufficed`). The figures are exact.
+//!   and only if it was never cut or is free; `take_back` does the same of a block that is out,
+//!   without the tests. If a block was cut, the rest sufficed (`rest_sufficed`). The figures are
+//!   exact.
 //! - `recall_whole`: the pool's bytes pay for what was cut, and no more blocks are cut than
 //!   `most_blocks`. `draws_take_room_one_by_one`: after a draw so many blocks fit if and only if
 //!   one more fitted before.
+//! - `offset_of` answers where a block begins, for a caller that has memory of the pool's bytes.
+//!   `blocks_lie_apart`: blocks lie within the pool's bytes, at multiples of 8, no two have a byte
+//!   in common, and none ever moves.
 //! - `agree`: for any calls, a pool and its account on paper give and refuse the same draws and
 //!   show the same figures; a refused return is counted in both; the account moves by its own draws
 //!   and returns.
@@ -45,6 +49,6 @@ mod pool;
 pub use agreement::{agree, pool_and_plain};
 pub use blocks::{BlockNo, ClassStats, CutBlock, OVERHEAD};
 pub use calls::PoolCall;
-pub use laws::draws_take_room_one_by_one;
+pub use laws::{blocks_lie_apart, draws_take_room_one_by_one};
 pub use plain::PlainPool;
 pub use pool::Pool;

@@ -2,11 +2,13 @@
 ghost use Rattle.std.specs.Prelude.{◌≡◌, ℕ, ◌+◌, ◌<◌, ◌≤◌, ◌↔◌, [], ◌∷◌, ◌++◌, true, false, length, slice_index, slice_index_or, slice_set, Some, None, IsTrue, IsSome, IfSome, IsOk, IfOk, IfErr, OnOk, OnErr};
 ghost use Rattle.fsw_base.specs.PoolAccounts.{counted, overhead};
 ghost use Rattle.fsw_base.specs.Blocks.{class_of};
+ghost use Rattle.es_pool.specs.Places.{offset_at};
 ghost use Rattle.es_pool.specs.Pool.{PoolState, IsWhole, fits, fits_class, DrawsFor, Draws, made_in, free_in, in_use_by, out_among, rest_of, is_out, is_free, class_at, size_at, most_cut, given_back};
 
 use crate::blocks::{BlockNo, ClassStats, CutBlock, OVERHEAD, zeros};
 use bucket_list::Lists;
 use fsw_base::{BlockSizes, EsStatus, MAX_BLOCK_SIZE, PoolStats};
+use ruled_out::ruled_out;
 use std::alloc::{AllocError, Global};
 use std::marker::Model;
 use step_count::{Ledger, Steps};
@@ -41,6 +43,9 @@ pub struct Pool {
     recent: u32,
     // The blocks cut, by number. There is room for all that can be cut.
     blocks: Vec<CutBlock>,
+    // Where each block begins, in bytes from the pool's first on, by the block's number. There is
+    // room for all that can be cut.
+    offsets: Vec<u32>,
     // How many blocks of each class were cut.
     made: Vec<u32>,
     // The free blocks of each class.
@@ -80,6 +85,7 @@ impl Pool {
         let classes = sizes.count();
         let room = bytes / (sizes.at(0) + OVERHEAD);
         let blocks = Vec::with_capacity(alloc, room as usize)?;
+        let offsets = Vec::with_capacity(alloc, room as usize)?;
         let made = zeros(alloc, classes)?;
         let free = Lists::new(alloc, room, classes)?;
         Ok(Pool {
@@ -93,6 +99,7 @@ impl Pool {
             errors: 0,
             recent: 0,
             blocks,
+            offsets,
             made,
             free,
         })
@@ -257,7 +264,9 @@ impl Pool {
         ensures cut { IsSome result ↔ (block < length self.now.blocks) }
         ensures class { IfSome result (λ class. class ≡ class_at self.now block) }
     {
-        self.blocks.get(block as usize).map(|cut| cut.class)
+        self.blocks
+            .get(block as usize)
+            .map(|cut| u32::from(cut.class))
     }
 
     /// The sizes of the blocks that are out, added up, in bytes.
@@ -279,7 +288,19 @@ impl Pool {
         requires { block < length self.now.blocks }
         ensures { result ≡ size_at self.now block }
     {
-        self.sizes.at(self.blocks[block as usize].class)
+        self.sizes.at(u32::from(self.blocks[block as usize].class))
+    }
+
+    /// Where a block that was cut begins, in bytes from the pool's first byte on. It stays there as
+    /// long as the pool lives, and no other block has a byte in common with it
+    /// ([`blocks_lie_apart`](crate::blocks_lie_apart)). By the code, it is looked up.
+    pub fn offset_of(&self, block: BlockNo) -> u32
+        requires { block < length self.now.blocks }
+        ensures offset { result ≡ offset_at self.now block }
+        ensures behind { overhead ≤ result }
+        ensures within { result + size_at self.now block ≤ self.now.bytes }
+    {
+        self.offsets[block as usize]
     }
 
     /// How many blocks can ever be cut.
@@ -368,7 +389,7 @@ impl Pool {
                 self.recent = class;
                 block
             }
-            None => unreachable!(),
+            None => ruled_out!(),
         }
     }
 
@@ -383,7 +404,12 @@ impl Pool {
     {
         let size = self.sizes.at(class);
         let block = self.free.add_node();
-        self.blocks.push_reserved(CutBlock { class, out: true });
+        self.blocks.push_reserved(CutBlock {
+            class: class as u8,
+            out: true,
+        });
+        let offset = self.bytes - self.rest + OVERHEAD;
+        self.offsets.push_reserved(offset);
         self.made[class as usize] += 1;
         self.rest -= size + OVERHEAD;
         self.in_use += size;
@@ -393,13 +419,14 @@ impl Pool {
         block
     }
 
-    // Puts a block that is out to the free ones of its class.
-    fn take_back<L: Ledger>(&mut self, block: BlockNo, steps: &mut Steps<L>)
+    /// Puts a block that is out to the free ones of its class: [`Pool::put`] without its tests. At
+    /// most 4 steps.
+    pub fn take_back<L: Ledger>(&mut self, block: BlockNo, steps: &mut Steps<L>)
         requires { IsTrue (is_out self.old block) }
         ensures given_back { self.new ≡ given_back self.old block }
         ensures cost { steps.new ≤ steps.old + 4 }
     {
-        let class = self.blocks[block as usize].class;
+        let class = u32::from(self.blocks[block as usize].class);
         self.blocks[block as usize].out = false;
         self.in_use -= self.sizes.at(class);
         self.out -= 1;

@@ -5,9 +5,13 @@
 //! rose. Behind a guard neither is called again after a failure.
 //!
 //! ```text
-//! let app = AppNo::try_new(3).unwrap();       // applications are numbered 1 to 16
-//! let config = Config::usual();               // the usual limits of a mission
-//! config.sizes.class_of(100)                  // Some(6): a block of 128 bytes
+//! /// An application, and the size of the block that a message of 100 bytes lies in.
+//! fn block_of_third() -> Option<(AppNo, u32)> {
+//!     let app = AppNo::try_new(3)?;               // applications are numbered 1 to 16
+//!     let config = Config::usual();               // the usual limits of a mission
+//!     let class = config.sizes.class_of(100)?;    // 6: the seventh size is large enough
+//!     Some((app, config.sizes.at(class)))         // 128 bytes
+//! }
 //! ```
 //!
 //! # Proved

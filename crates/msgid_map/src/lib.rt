@@ -1,13 +1,15 @@
 //! A finite map from message ids to routes, for ids 1 to 0x1FFF (CCSDS 133.0-B, 4.1.3).
 //!
 //! The Software Bus finds in it the route of a message that is sent. A look-up answers what was
-//! inserted for this id, and None exactly if nothing was. By the code, it reads one place of a
-//! table over all ids, and no call but `new` takes memory.
+//! inserted for this id, and None exactly if nothing was. Routes are numbered in order of
+//! insertion, so that two bytes hold one. By the code, a look-up reads the id's two bytes alone; no
+//! call but `new` takes memory.
 //!
 //! ```
 //! /// Two ids get a route each; one of them is looked up, and one that has none.
 //! fn two_routes(map: &mut IdMap) -> (Option<u32>, Option<u32>)
 //!     requires none { map.old.routes ≡ empty }
+//!     requires first { map.old.count ≡ 0 }
 //!     requires room { map.old.room ≡ 2 }
 //!     ensures { result ≡ (Some 1, None) }
 //! {

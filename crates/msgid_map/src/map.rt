@@ -2,6 +2,7 @@
 ghost use Rattle.std.specs.Prelude.{◌≡◌, ℕ, ◌+◌, ◌-◌, ◌<◌, ◌≤◌, None, IfOk};
 ghost use Rattle.std.specs.FinMap as map;
 ghost use Rattle.msgid_map.specs.declared.map.TheConstants.{MAX_ID};
+ghost use Rattle.msgid_map.specs.Inside.{route_at};
 ghost use Rattle.msgid_map.specs.Map.{IdRoutes};
 
 use std::alloc::{AllocError, Global};
@@ -14,30 +15,33 @@ pub const MAX_ID: u16 = 0x1fff;
 // How many places the table has: one for each id, and one for 0, which is none.
 const PLACES: usize = 0x2000;
 
-/// A route for each of some message ids. Contracts see the finite map from ids to routes, and how
-/// many ids more there is room for.
+/// A route for each of some message ids. Contracts see the finite map from ids to routes, how many
+/// ids have one, and how many ids more there is room for.
 #[derive(Drop)]
 pub struct IdMap {
-    // At each id, its route. There are [`PLACES`] of them.
-    table: Vec<Option<u32>>,
+    // At each id, its route and one more; 0 where it has none. There are [`PLACES`] of them.
+    places: Vec<u16>,
     // How many ids more may be inserted.
     room: u32,
 }
 
 impl Model for IdMap {
-    ghost use Rattle.std.specs.Prelude.{◌≡◌, length};
     ghost use Rattle.msgid_map.specs.Map.{IdRoutes, routes_code};
 
     ghost Value = { IdRoutes };
 
     ghost coded = { routes_code };
 
-    ghost use Rattle.msgid_map.specs.Inside.{routes_from};
-    ghost use Rattle.msgid_map.specs.declared.map.TheConstants.{PLACES};
+    ghost use Rattle.msgid_map.specs.Inside.{routes_from, table_of, ids_with_route, ArePlaces};
 
-    ghost view = { λ m. record { routes = routes_from 0 m.table.items; room = m.room } };
+    ghost view = { λ m.
+        record {
+          routes = routes_from 0 (table_of m.places.items);
+          count = ids_with_route m.places.items;
+          room = m.room;
+        } };
 
-    ghost invariant = { λ m. length m.table.items ≡ PLACES };
+    ghost invariant = { λ m. ArePlaces m.places.items };
 }
 
 impl IdMap {
@@ -47,11 +51,12 @@ impl IdMap {
     /// # Errors
     /// `AllocError` where there is no memory for the table.
     pub fn new(alloc: Global, room: u32) -> Result<IdMap, AllocError>
-        ensures { IfOk result (λ made. made ≡ record { routes = map.empty; room = room }) }
+        ensures { IfOk result
+            (λ made. made ≡ record { routes = map.empty; count = 0; room = room }) }
     {
-        let mut table = Vec::new(alloc);
-        table.resize(PLACES, None)?;
-        Ok(IdMap { table, room })
+        let mut places = Vec::new(alloc);
+        places.resize(PLACES, 0)?;
+        Ok(IdMap { places, room })
     }
 
     /// The route that was inserted for this id; None exactly where none was, so for each invalid id
@@ -59,22 +64,34 @@ impl IdMap {
     pub fn get(&self, id: u16) -> Option<u32>
         ensures { result ≡ map.get self.now.routes id }
     {
-        match self.table.get(id as usize) {
-            Some(route) => *route,
+        match self.places.get(id as usize) {
+            Some(place) => route_at(*place),
             None => None,
         }
     }
 
-    /// Gives an id its route. Routes of other ids stay.
+    /// Gives an id its route, which is numbered by how many ids have one. Routes of other ids stay.
     pub fn insert(&mut self, id: u16, route: u32)
         requires first { 1 ≤ id }
         requires last { id ≤ MAX_ID }
         requires fresh { map.get self.old.routes id ≡ None }
+        requires next { route ≡ self.old.count }
         requires room { 0 < self.old.room }
         ensures routes { self.new.routes ≡ map.insert self.old.routes id route }
+        ensures count { self.new.count ≡ self.old.count + 1 }
         ensures room { self.new.room ≡ self.old.room - 1 }
     {
-        self.table[id as usize] = Some(route);
         self.room -= 1;
+        self.places[id as usize] = (route + 1) as u16;
     }
+}
+
+// The route that a place means.
+fn route_at(place: u16) -> Option<u32>
+    ensures { result ≡ route_at place }
+{
+    if place == 0 {
+        return None;
+    }
+    Some(u32::from(place) - 1)
 }

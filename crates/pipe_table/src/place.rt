@@ -9,6 +9,7 @@ use crate::offered::OfferOutcome;
 use bus_words::{PipeText, Verdict};
 use fsw_base::AppNo;
 use pipe_queue::{Full, Item, PipeQueue};
+use ruled_out::ruled_out;
 use std::alloc::{AllocError, Global};
 use std::marker::Model;
 
@@ -134,7 +135,7 @@ impl Place {
     {
         match &self.label {
             Some(label) => label.owner == app,
-            None => unreachable!(),
+            None => ruled_out!(),
         }
     }
 
@@ -167,11 +168,14 @@ impl Place {
         }
     }
 
-    /// How many messages wait.
-    pub(crate) fn queue_len(&self) -> u32
-        ensures { result ≡ option_map_or (λ pipe. length pipe.queue) self.now.pipe 0 }
+    /// How many items wait; None where no pipe is here.
+    pub(crate) fn waiting_count(&self) -> Option<u32>
+        ensures { result ≡ option_map (λ pipe. length pipe.queue) self.now.pipe }
     {
-        self.queue.len()
+        match &self.label {
+            Some(_) => Some(self.queue.len()),
+            None => None,
+        }
     }
 
     /// What waits longest.
@@ -275,7 +279,7 @@ impl Place {
     {
         match &self.label {
             Some(label) => label.bits / 2 % 2 == 1,
-            None => unreachable!(),
+            None => ruled_out!(),
         }
     }
 
@@ -287,7 +291,7 @@ impl Place {
     {
         match &self.label {
             Some(label) => label.bits % 2 == 1 && label.owner == sender,
-            None => unreachable!(),
+            None => ruled_out!(),
         }
     }
 }

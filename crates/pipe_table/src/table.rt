@@ -137,6 +137,16 @@ impl PipeTable {
         at_number(&self.live, &self.at, number)
     }
 
+    /// How many items wait on the live pipe of this number. None if no such pipe is live.
+    pub fn waiting_count(&self, number: u32) -> Option<u32>
+        ensures { result ≡ option_map (λ pipe. length pipe.queue) (pipe_at self.now.live number) }
+    {
+        match found(&self.places, &self.live, &self.at, number) {
+            Some(place) => place.waiting_count(),
+            None => None,
+        }
+    }
+
     /// What waits longest on the live pipe of this number.
     pub fn oldest(&self, number: u32) -> Option<Item>
         ensures { result ≡ oldest_on self.now.live number }

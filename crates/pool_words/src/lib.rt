@@ -5,9 +5,13 @@
 //! a grant that came back. Each call changes the pool's account as `fsw_base` defines it.
 //!
 //! ```text
-//! let pool = new_pool sizes bytes in
-//! get_answer pool 60                  -- Ok 1, if there is room for a block of 60 bytes
-//! put_answer (after_get pool 2 60) 1  -- Ok (), for any application
+//! -- a pool of 1000 bytes, in blocks of 64 and 128
+//! abbrev pool : PoolGrants
+//! pool = new_pool (64 ∷ 128 ∷ []) 1000
+//!
+//! get_answer pool 60                  -- Ok 1: there is room for a block of 64 bytes
+//! put_answer pool 1                   -- Err BufferNotInPool: it gave no grant
+//! put_answer (after_get pool 2 60) 1  -- Ok tt: application 2's grant, and anyone may return it
 //! ```
 //!
 //! Proved: `recall_blocks_counted`: the blocks out are counted from the grants that are out

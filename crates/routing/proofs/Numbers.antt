@@ -155,13 +155,14 @@ module _ (numbers : IdRoutes) (ids : List ℕ) (capacity : ℕ) (counted : List 
       by_case (inl h) = omega (arith, within route h, a.limit_is)
       by_case (inr past) = omega (arith, ap (λ ds. length ds) (a.dests_none route (omega (arith, past, a.room, a.lists_all))))
 
-  pub numbered_push : (id room capacity' : ℕ) (m : finmap.FinMap nat_cmp ℕ) → finmap.get numbers.routes id ≡ None → length ids < msgids → m ≡ finmap.insert numbers.routes id (length ids) → room ≡ numbers.room - 1 → capacity' ≡ capacity
-      → AreNumbered (record { routes = m; room = room }) (ids ++ id ∷ []) capacity' counted table msgids limit
-  numbered_push id room capacity' m none fits e_m e_room e_capacity =
+  pub numbered_push : (id count room capacity' : ℕ) (m : finmap.FinMap nat_cmp ℕ) → finmap.get numbers.routes id ≡ None → length ids < msgids → m ≡ finmap.insert numbers.routes id (length ids) → count ≡ numbers.count + 1 → room ≡ numbers.room - 1 → capacity' ≡ capacity
+      → AreNumbered (record { routes = m; count = count; room = room }) (ids ++ id ∷ []) capacity' counted table msgids limit
+  numbered_push id count room capacity' m none fits e_m e_count e_room e_capacity =
       let more : length (ids ++ id ∷ []) ≡ length ids + 1 = length_back ids in
       record {
         mapped = λ q. ap (λ n. finmap.get n q) e_m ∙ mapped_more numbers.routes ids id (length ids) a.mapped none refl q;
         once = λ other. once_more ids id other (a.once other) (none_there 0 ids id (sym (a.mapped id) ∙ none));
+        all = omega (arith, more, a.all, e_count);
         room = omega (arith, more, a.room, e_room, fits);
         capacity_all = omega (arith, a.capacity_all, e_capacity);
         counted_all = a.counted_all;
@@ -181,6 +182,7 @@ module _ (numbers : IdRoutes) (ids : List ℕ) (capacity : ℕ) (counted : List 
   numbered_count route count h small = record {
     mapped = a.mapped;
     once = a.once;
+    all = a.all;
     room = a.room;
     capacity_all = a.capacity_all;
     counted_all = length-set counted route count ∙ a.counted_all;
@@ -202,6 +204,7 @@ module _ (numbers : IdRoutes) (ids : List ℕ) (capacity : ℕ) (counted : List 
       (record {
         mapped = a.mapped;
         once = a.once;
+        all = a.all;
         room = a.room;
         capacity_all = a.capacity_all;
         counted_all = a.counted_all;
@@ -330,11 +333,12 @@ pub cut_on : (count calls : ℕ) → count ≡ calls % 16384 → (count + 1) % 1
 cut_on count calls e = omega (arith, e)
 
 -- no routes yet
-pub numbered_new : (numbers : IdRoutes) (ids : List ℕ) (capacity : ℕ) (counted : List ℕ) (table : DestTable) (msgids limit : ℕ) → (let made : IdRoutes = record { routes = finmap.empty; room = msgids } in numbers ≡ made) → ids ≡ [] → msgids ≤ capacity → counted ≡ replicate msgids 0
+pub numbered_new : (numbers : IdRoutes) (ids : List ℕ) (capacity : ℕ) (counted : List ℕ) (table : DestTable) (msgids limit : ℕ) → (let made : IdRoutes = record { routes = finmap.empty; count = 0; room = msgids } in numbers ≡ made) → ids ≡ [] → msgids ≤ capacity → counted ≡ replicate msgids 0
     → (let made : DestTable = record { limit = limit; lists = replicate msgids [] } in table ≡ made) → msgids < 2 ^ 32 → AreNumbered numbers ids capacity counted table msgids limit
 numbered_new numbers ids capacity counted table msgids limit e_numbers e_ids room e_counted e_table few = record {
   mapped = λ q. ap (λ (n : IdRoutes). finmap.get n.routes q) e_numbers ∙ (finmap.get-empty {X = ℕ} nat_cmp q ∙ ap (λ is. place_from 0 is q) (sym e_ids));
   once = λ id. omega (arith, ap (count_by (λ other. eqb other id)) e_ids);
+  all = ap (λ (n : IdRoutes). n.count) e_numbers ∙ ap (λ is. length is) (sym e_ids);
   room = omega (arith, ap (λ (n : IdRoutes). n.room) e_numbers, ap (λ is. length is) e_ids);
   capacity_all = room;
   counted_all = ap (λ ls. length ls) e_counted ∙ length-replicate {A = ℕ} msgids 0;

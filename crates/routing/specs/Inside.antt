@@ -102,12 +102,14 @@ place_from number [] id = None
 place_from number (other ∷ ids) id =
     if other == id then Some number else place_from (number + 1) ids id
 
--- each id is mapped to its place, no other id is mapped, and no id stands twice; there is a count
+-- each id is mapped to its place, no other id is mapped, as many are mapped as there are, and no id
+-- stands twice; there is a count
 -- and a list for each route that may be made, 0 and empty until then; counts have 14 bits
 pub record AreNumbered (numbers : IdRoutes) (ids : List ℕ) (capacity : ℕ) (counted : List ℕ)
     (table : DestTable) (msgids limit : ℕ) : Type 0 where
   pub mapped : (id : ℕ) → finmap.get numbers.routes id ≡ place_from 0 ids id
   pub once : (id : ℕ) → count_by (λ other. other == id) ids ≤ 1
+  pub all : numbers.count ≡ length ids
   pub room : numbers.room + length ids ≡ msgids
   pub capacity_all : msgids ≤ capacity
   pub counted_all : length counted ≡ msgids

@@ -7,15 +7,13 @@ ghost use Rattle.routing.specs.Dests.{Dest, has_sub, has_node, without, first_de
 ghost use Rattle.routing.specs.Routing.{Route, Routing, route_of, route_at, dests_at, fresh_route, with_dests, with_route, next_of, counted_on, CountsGoByCalls};
 
 use crate::dests::DestLists;
+use ccsds_msg::COUNTS;
 use fsw_base::{CountStarts, SbStatus};
 use msgid_map::IdMap;
 use std::alloc::{AllocError, Global};
 use std::marker::Model;
 use step_count::{Ledger, Steps};
 use subscriptions::SubNo;
-
-// How many sequence counts there are: a count has 14 bits (CCSDS 133.0-B, 4.1.3.4.3).
-const COUNTS: u16 = 16384;
 
 /// The routes of message ids. Contracts see how many routes there may be, how many destinations
 /// each may have, the counts at which ids start, and the routes in order of making: a route's

@@ -1,13 +1,20 @@
-mod Traces
-mod TableTraces
-mod Entries
-mod TableEntries
-mod Reports
-mod Fronts
-mod WrongLines
-mod Beginnings
-mod Texts
-mod NextLines
-mod Judgements
-mod Progress
-mod TableProgress
+pub mod Traces
+pub mod TableTraces
+pub mod Entries
+pub mod TableEntries
+pub mod Reports
+pub mod Fronts
+pub mod WrongLines
+pub mod Beginnings
+pub mod Texts
+pub mod NextLines
+pub mod Judgements
+pub mod Progress
+pub mod TableProgress
+pub mod TablePlaces
+pub mod TableGoesOn
+pub mod BusPlaces
+pub mod BusGoesOn
+pub mod BusReceipts
+pub mod TableReceipts
+pub mod MergedReceipts

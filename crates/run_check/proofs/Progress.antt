@@ -49,7 +49,7 @@ owed_call standing None call e es is owed = absurd (cc is)
 
 -- The bus's answer. --
 
-legal_last : (limits : Limits) (apps : ℕ) (history : List Entry) (s : State) (p : List Entry) (e : Entry) → LegalFrom limits history s (p ++ e ∷ []) →
+pub legal_last : (limits : Limits) (apps : ℕ) (history : List Entry) (s : State) (p : List Entry) (e : Entry) → LegalFrom limits history s (p ++ e ∷ []) →
     IsTrue (may_call (standing_of (state_from limits history s p) e.app) e.call)
     × (e.answer ≡ (step limits (history ++ p) (state_from limits history s p) e.app e.call).0)
     × IsTrue (makes_entry e.call e.answer)
@@ -115,7 +115,7 @@ owed_some Ended (Some r) e is = absurd (cc is)
 owed_some standing None e is = absurd (cc is)
 
 -- an entry is none of another application's
-own_other : (app : ℕ) (p : List Entry) (e : Entry) → (e.app == app) ≡ false → own_entries app (p ++ e ∷ []) ≡ own_entries app p
+pub own_other : (app : ℕ) (p : List Entry) (e : Entry) → (e.app == app) ≡ false → own_entries app (p ++ e ∷ []) ≡ own_entries app p
 own_other app p e apart =
     filter-append (λ x. x.app == app) p (e ∷ [])
     ∙ ap (λ (b : Bool). own_entries app p ++ (if b then e ∷ [] else [])) apart

@@ -45,7 +45,7 @@ owed_call (Some r) call e es is owed = by r.lines is owed
         (λ rest. TableTrace r.handles lines rest) call e es is owed
 owed_call None call e es is owed = absurd (cc is)
 
-legal_last : (limits : Limits) (s : State) (p : List Entry) (e : Entry) → LegalFrom limits s (p ++ e ∷ []) →
+pub legal_last : (limits : Limits) (s : State) (p : List Entry) (e : Entry) → LegalFrom limits s (p ++ e ∷ []) →
     IsTrue (may_call (state_from limits s p) e.app) × (e.answer ≡ (step limits (state_from limits s p) e.app e.call).0)
 legal_last limits s [] e legal = (legal.0, legal.1)
 legal_last limits s (x ∷ p) e legal = legal_last limits ((step limits s x.app x.call).1) p e legal.2
@@ -84,7 +84,7 @@ owed_some (Some r) e is = by r.lines is
         (λ rest. TableTrace r.handles lines rest) e is (λ answer. table_trace_some (handles_after r.handles line answer) lines)
 owed_some None e is = absurd (cc is)
 
-own_other : (app : ℕ) (p : List Entry) (e : Entry) → (e.app == app) ≡ false → own_table_entries app (p ++ e ∷ []) ≡ own_table_entries app p
+pub own_other : (app : ℕ) (p : List Entry) (e : Entry) → (e.app == app) ≡ false → own_table_entries app (p ++ e ∷ []) ≡ own_table_entries app p
 own_other app p e apart =
     filter-append (λ x. x.app == app) p (e ∷ [])
     ∙ ap (λ (b : Bool). own_table_entries app p ++ (if b then e ∷ [] else [])) apart

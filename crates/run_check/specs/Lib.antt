@@ -6,3 +6,6 @@ pub mod Fronts
 pub mod Judged
 pub mod Progress
 pub mod TableProgress
+pub mod Places
+pub mod TablePlaces
+pub mod Merged

@@ -2,6 +2,9 @@
 ghost use Rattle.run_check.specs.Fronts.{WrongLinesAreFirst};
 ghost use Rattle.run_check.specs.Progress.{ApplicationsGoOn, NextCallsAreKnown, NextCallsMayCome};
 ghost use Rattle.run_check.specs.Judged.{JudgedIsAnswered};
+ghost use Rattle.run_check.specs.Merged.{ReceiptsAreMerged};
+ghost use Rattle.run_check.specs.Places.{PlacesGoOn};
+ghost use Rattle.run_check.specs.TablePlaces.{TablePlacesGoOn};
 ghost use Rattle.run_check.specs.TableProgress.{ApplicationsGoOnAtTables, NextTableCallsAreKnown, NextTableCallsMayCome};
 ghost use Rattle.run_check.specs.Determined.{ReportsTellRuns, NextEntriesAreOne, NextTableEntriesAreOne};
 
@@ -43,4 +46,21 @@ pub fn next_table_calls_are_known()
     ensures known { NextTableCallsAreKnown }
     ensures may_come { NextTableCallsMayCome }
     ensures goes_on { ApplicationsGoOnAtTables }
+{}
+
+/// Behind a history of the bus that is under way, an application has to make what its lines owe
+/// from its place on: past the lines that the bus doesn't see, and behind each answer.
+pub fn places_go_on()
+    ensures { PlacesGoOn }
+{}
+
+/// The same of the tables.
+pub fn table_places_go_on()
+    ensures { TablePlacesGoOn }
+{}
+
+/// In a run the receipts of an application are those that its lines made at each service, in the
+/// order of its lines: what is kept at its two places is what the report has.
+pub fn receipts_are_merged()
+    ensures { ReceiptsAreMerged }
 {}

@@ -3,13 +3,14 @@ use Rattle.std.proofs.Common.{◌≡◌, ℕ, Bool, true, false, cond, eqb, List
 use Rattle.std.specs.Option.{option_map, option_map_or}
 use Rattle.fsw_base.specs.Limits.{Limits, limits_of}
 use Rattle.lend_block.specs.Loan.{LentBytes}
+use Rattle.buf_desc.specs.Block.{Unsent as UnsentBlock}
 use Rattle.buf_desc.specs.Held.{Holding, buffer_at}
 use Rattle.bus_tables.specs.Tables.{Room}
-use Rattle.bus_store.specs.Bag.{HoldsViews, HoldsBuffers, shape_of}
+use Rattle.bus_store.specs.Bag.{HoldsViews, HoldsBuffers, HoldsBuffer, shape_of, with_lent}
 use Rattle.bus_store.specs.Store.{Store, LastLoan}
 use Rattle.bus_store.specs.Words.{loan_of, desc_of}
 use Rattle.sb_plain.specs.declared.plain.PlainBus.TheInside.{Inside}
-use Rattle.sb_plain.specs.Bags.{HasBag, KeepsBags, KeepsOtherBags}
+use Rattle.sb_plain.specs.Bags.{HasBag, HasOwnViews, HasBuffer, KeepsBag, KeepsBags, KeepsOtherBags}
 use Rattle.sb_plain.specs.Core.{Plain}
 use Rattle.sb_plain.specs.Inside.{plain_of, AreInOrder}
 
@@ -20,6 +21,10 @@ HasViews store app bag = HoldsViews store.pipes store.loans store.room.pipes app
 -- the bag has the blocks of the application's unsent buffers, as the store tells it
 abbrev pub HasBlocks : Store → ℕ → Holding LentBytes → Type 0
 HasBlocks store app bag = HoldsBuffers store.unsent store.descs store.account.sizes app bag
+
+-- the bag has the block of the application's unsent buffer of this number, as the store tells it
+abbrev pub HasBlock : Store → ℕ → Holding LentBytes → ℕ → Type 0
+HasBlock store app bag number = HoldsBuffer store.unsent store.descs store.account.sizes app bag number
 
 -- the unsent buffers stay as they are
 pub record SameBuffers (old new : Store) : Type 0 where
@@ -55,10 +60,18 @@ most_pipes a b keeps limits room = ap (λ (r : Room). r.pipes) (room ∙ keeps.r
 
 module _ (a : Inside) (old : Plain) (viewed : plain_of a ≡ old) (keeps : AreInOrder a) where
   -- a bag before the call
+  pub views_before : (app : ℕ) (bag : Holding LentBytes) → HasOwnViews old app bag → HasViews a.store app bag
+  views_before app bag has =
+      let here : HasOwnViews (plain_of a) app bag = subst (λ o. HasOwnViews o app bag) (sym viewed) has in
+      subst (λ n. HoldsViews a.store.pipes a.store.loans n app bag) (sym (ap (λ (r : Room). r.pipes) keeps.room)) here
+
   pub bag_before : (app : ℕ) (bag : Holding LentBytes) → HasBag old app bag → HasViews a.store app bag
-  bag_before app bag has =
-      let here : HasBag (plain_of a) app bag = subst (λ o. HasBag o app bag) (sym viewed) has in
-      subst (λ n. HoldsViews a.store.pipes a.store.loans n app bag) (sym (ap (λ (r : Room). r.pipes) keeps.room)) here.views
+  bag_before app bag has = views_before app bag has.views
+
+  pub block_before : (app : ℕ) (bag : Holding LentBytes) (number : ℕ) → HasBuffer old app bag number → HasBlock a.store app bag number
+  block_before app bag number has =
+      let here : HasBuffer (plain_of a) app bag number = subst (λ o. HasBuffer o app bag number) (sym viewed) has in
+      subst (λ l. HoldsBuffer a.store.unsent a.store.descs l app bag number) (sym keeps.pool.sizes) here
 
   pub blocks_before : (app : ℕ) (bag : Holding LentBytes) → HasBag old app bag → HasBlocks a.store app bag
   blocks_before app bag has =
@@ -91,6 +104,21 @@ module _ (a : Inside) (old : Plain) (viewed : plain_of a ≡ old) (keeps : AreIn
     pub own_viewed : SameBuffers a.store b.store → (app : ℕ) (bag now : Holding LentBytes) → now ≡ record bag { views = now.views } → HasBag old app bag → HasViews b.store app now → HasBag (plain_of b) app now
     own_viewed same app bag now is has views =
         bag_after same.sizes app now views (viewed_blocks b.store app bag now is (still_blocks a.store b.store app bag same (blocks_before app bag has)))
+
+    -- the same with the blocks put back that are lent out
+    pub part_viewed : SameBuffers a.store b.store → (app : ℕ) (bag now : Holding LentBytes) → now ≡ record bag { views = now.views } → HasViews b.store app now → KeepsBag old (plain_of b) app bag now
+    part_viewed same app bag now is views = λ lent has.
+        own_viewed same app (with_lent bag lent) (with_lent now lent) (ap (λ (h : Holding LentBytes). with_lent h lent) is) has
+        (record { seen = views.seen; counted = views.counted; room = views.room })
+
+    -- the application's own, where its buffers change
+    pub part_blocked : b.store.account.sizes ≡ a.store.account.sizes → (app : ℕ) (bag now : Holding LentBytes) → now ≡ record bag { buffers = now.buffers } →
+        ((held : Holding LentBytes) → HasViews a.store app held → HasViews b.store app held) → (lent : List UnsentBlock) →
+        (HasBlocks a.store app (with_lent bag lent) → HasBlocks b.store app (with_lent now lent)) → HasBag old app (with_lent bag lent) → HasBag (plain_of b) app (with_lent now lent)
+    part_blocked sizes app bag now is views lent blocks has =
+        bag_after sizes app (with_lent now lent)
+        (blocked_views b.store app (with_lent bag lent) (with_lent now lent) (ap (λ (h : Holding LentBytes). with_lent h lent) is) (views (with_lent bag lent) (bag_before app (with_lent bag lent) has)))
+        (blocks (blocks_before app (with_lent bag lent) has))
 
   -- the loans and the descriptors before the call
   pub loan_before : (pipe : ℕ) → loan_of a.store.loans pipe ≡ loan_of old.loans pipe

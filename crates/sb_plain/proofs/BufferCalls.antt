@@ -28,7 +28,7 @@ use Rattle.bus_words.proofs.Bounds.{length-deliver}
 use Rattle.bus_store.specs.Store.{Store}
 use Rattle.bus_store.specs.Words.{desc_of, size_for, next_of, nexts_in, passing_of, missed, counted_up, with_held}
 use Rattle.sb_plain.specs.declared.plain.PlainBus.TheInside.{Inside}
-use Rattle.sb_plain.specs.Bags.{HasBag}
+use Rattle.sb_plain.specs.Bags.{HasBuffer}
 use Rattle.sb_plain.specs.Core.{Plain}
 use Rattle.sb_plain.specs.Inside.{means, AreInOrder}
 use Rattle.sb_plain.specs.Rows.{buffer_cause}
@@ -40,8 +40,8 @@ use Rattle.sb_plain.proofs.Transmits.{request_stays, ids_of-counted_up, has_rout
 
 -- What the bag tells of the application's buffers. --
 
-has_alike : (core : Plain) (app buf : ℕ) (bag : Holding LentBytes) → HasBag core app bag → is_some (buffer_at bag buf) ≡ has_unsent core.whole.bus.unsent app buf
-has_alike core app buf bag has = at (buffer_at bag buf) (unsent_at core.whole.bus.unsent app buf) (has.buffers.due buf)
+has_alike : (core : Plain) (app buf : ℕ) (bag : Holding LentBytes) → HasBuffer core app bag buf → is_some (buffer_at bag buf) ≡ has_unsent core.whole.bus.unsent app buf
+has_alike core app buf bag has = at (buffer_at bag buf) (unsent_at core.whole.bus.unsent app buf) has.due
   where
     shape : Buffer → Shape
     shape b = record { desc = desc_of core.descs buf; size = size_for core.limits.sizes b.size; asked = b.size }
@@ -52,11 +52,11 @@ has_alike core app buf bag has = at (buffer_at bag buf) (unsent_at core.whole.bu
     at (Some b) None e = absurd (cc (e))
     at (Some b) (Some x) e = refl
 
-pub transmit_told : (core : Plain) (app buf : ℕ) (bag : Holding LentBytes) → HasBag core app bag → transmit_buffer_cause core.whole.bus app buf (bytes_at bag buf) ≡ buffer_cause bag buf
+pub transmit_told : (core : Plain) (app buf : ℕ) (bag : Holding LentBytes) → HasBuffer core app bag buf → transmit_buffer_cause core.whole.bus app buf (bytes_at bag buf) ≡ buffer_cause bag buf
 transmit_told core app buf bag has =
     ap (λ b. refused_if (not b) BufferInvalid (refused_if (is_some (front_fault (bytes_at bag buf))) BadArgument None)) (sym (has_alike core app buf bag has))
 
-pub release_told : (core : Plain) (app buf : ℕ) (bag : Holding LentBytes) (there : Bool) → HasBag core app bag → is_some (buffer_at bag buf) ≡ there →
+pub release_told : (core : Plain) (app buf : ℕ) (bag : Holding LentBytes) (there : Bool) → HasBuffer core app bag buf → is_some (buffer_at bag buf) ≡ there →
     release_cause core.whole.bus app buf ≡ refused_if (not there) BufferInvalid None
 release_told core app buf bag there has is = ap (λ b. refused_if (not b) BufferInvalid None) (sym (has_alike core app buf bag has) ∙ is)
 

@@ -1,10 +1,11 @@
 -- What applications have in their bags of the messages that they received and of the buffers that
 -- they haven't sent, by which loans and in which blocks.
-use Rattle.std.specs.Prelude.{◌≡◌, ◌≢◌, ℕ, false}
+use Rattle.std.specs.Prelude.{◌≡◌, ◌≢◌, ℕ, ◌==◌, false, List, find, None}
 use Rattle.lend_block.specs.Loan.{LentBytes}
+use Rattle.buf_desc.specs.Block.{Unsent}
 use Rattle.buf_desc.specs.Held.{Holding, buffer_at}
 use Rattle.bus_words.specs.Bus.{owns, has_unsent}
-use Rattle.bus_store.specs.Bag.{HoldsViews, HoldsBuffers}
+use Rattle.bus_store.specs.Bag.{HoldsViews, HoldsBuffers, HoldsBuffer, with_lent}
 use Rattle.bus_store.specs.Words.{loan_of, desc_of}
 use Rattle.sb_plain.specs.Core.{Plain}
 
@@ -30,6 +31,34 @@ KeepsOtherBags old new app =
 abbrev pub KeepsBuffers : Holding LentBytes → Holding LentBytes → ℕ → Type 0
 KeepsBuffers old new number =
     (other : ℕ) → number ≢ other → buffer_at new other ≡ buffer_at old other
+
+-- Bags with blocks lent out. --
+
+-- the bag has the application's views, and no others
+abbrev pub HasOwnViews : Plain → ℕ → Holding LentBytes → Type 0
+HasOwnViews core app bag =
+    HoldsViews core.whole.bus.pipes core.loans core.limits.pipes app bag
+
+-- the bag has the block that is due for this number
+abbrev pub HasBuffer : Plain → ℕ → Holding LentBytes → ℕ → Type 0
+HasBuffer core app bag number =
+    HoldsBuffer core.whole.bus.unsent core.descs core.limits.sizes app bag number
+
+-- the bag is the application's once what is lent out of it is put back
+pub record HasBagInPart (core : Plain) (app : ℕ) (bag : Holding LentBytes) : Type 0 where
+  pub lent : List Unsent
+  pub has : HasBag core app (with_lent bag lent)
+
+-- the bag stays so, whatever is lent out of it
+abbrev pub KeepsBag : Plain → Plain → ℕ → Holding LentBytes → Holding LentBytes → Type 0
+KeepsBag old new app bag now =
+    (lent : List Unsent) → HasBag old app (with_lent bag lent) → HasBag new app (with_lent now lent)
+
+-- the same, where nothing of this number is lent out
+abbrev pub KeepsBagBut : Plain → Plain → ℕ → Holding LentBytes → Holding LentBytes → ℕ → Type 0
+KeepsBagBut old new app bag now number =
+    (lent : List Unsent) → find (λ block. block.number == number) lent ≡ None →
+    HasBag old app (with_lent bag lent) → HasBag new app (with_lent now lent)
 
 -- Loans. --
 

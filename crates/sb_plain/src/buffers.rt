@@ -14,9 +14,7 @@ ghost use Rattle.sb_plain.specs.Rows.{buffer_cause};
 
 use crate::plain::PlainBus;
 use crate::sending::Sent;
-use crate::uses::{see, see_blocks};
 use buf_desc::{Block, Held};
-use bus_events::ServiceEvent;
 use ccsds_msg::{Header, MsgFault, front};
 use fsw_base::{AppNo, SbStatus};
 use housekeeping::CounterName;
@@ -33,8 +31,8 @@ fn header_in(block: &Block<'_>) -> Result<Header, MsgFault>
     front(block.bytes())
 }
 
-// The id of the message that a buffer of the bag begins with, or why it can't be sent.
-fn id_to_send(held: &Held<'_>, buf: u64) -> Result<u16, SbStatus>
+/// The id of the message that a buffer of the bag begins with, or why it can't be sent.
+pub(crate) fn id_to_send(held: &Held<'_>, buf: u64) -> Result<u16, SbStatus>
     ensures id { IfOk result (λ id. id ≡ message_id (bytes_at held.now buf)) }
     ensures none { IfOk result (λ id. buffer_cause held.now buf ≡ None) }
     ensures why { IfErr result (λ status. buffer_cause held.now buf ≡ Some status) }
@@ -86,19 +84,7 @@ impl<'r> PlainBus<'r> {
         ensures count { length held.new.buffers ≤ length held.old.buffers + 1 }
         ensures cost { steps.new ≤ steps.old + 32 }
     {
-        if !self.has_send_number() {
-            self.refuse(CounterName::Send);
-            return Err(SbStatus::BufAlocErr);
-        }
-        if let Some(status) = self.allocate_cause(size) {
-            self.refuse(CounterName::Send);
-            return Err(status);
-        }
-        // Does nothing; the proof learns of it which blocks are out.
-        self.store.recall_held();
-        let number = self.store.allocate(app, size, held, steps);
-        see_blocks(&mut self.records, &self.store);
-        Ok(number)
+        self.allocate_lending(app, size, held, steps)
     }
 
     /// Sends the message that the caller's buffer begins with, as many bytes as its header says,
@@ -140,31 +126,7 @@ impl<'r> PlainBus<'r> {
             (route self.old.whole.bus.subscriptions (message_id (bytes_at held.old buf))) +
             8 * drops_for self.old.whole.bus app (message_id (bytes_at held.old buf)) }
     {
-        let id = match id_to_send(held, buf) {
-            Ok(id) => id,
-            Err(status) => {
-                self.refuse(CounterName::Send);
-                return Err(status);
-            }
-        };
-        if self.store.dests_of(id) == 0 {
-            self.store.release(app, buf, held, steps);
-            self.records.tell(ServiceEvent::NoSubscribers { id });
-            see(&mut self.records, &self.store);
-            return Ok(Sent {
-                number: 0,
-                reached: 0,
-            });
-        }
-        // Does nothing; the proof learns of it which blocks are out.
-        self.store.recall_held();
-        let sent = self.store.transmit_buffer(app, buf, inc, held, steps);
-        self.records.tell_misses(self.store.misses(), id, app);
-        see_blocks(&mut self.records, &self.store);
-        Ok(Sent {
-            number: sent.number,
-            reached: sent.reached,
-        })
+        self.transmit_buffer_lending(app, buf, inc, held, steps)
     }
 
     /// Gives the caller's buffer back unsent: it is taken out of the caller's bag, and its block
@@ -193,12 +155,6 @@ impl<'r> PlainBus<'r> {
         ensures count { length held.new.buffers ≤ length held.old.buffers }
         ensures cost { steps.new ≤ steps.old + 32 }
     {
-        if held.buffer(buf).is_none() {
-            self.refuse(CounterName::Send);
-            return Err(SbStatus::BufferInvalid);
-        }
-        self.store.release(app, buf, held, steps);
-        see(&mut self.records, &self.store);
-        Ok(())
+        self.release_lending(app, buf, held, steps)
     }
 }

@@ -57,14 +57,19 @@
 //!   others are unchanged (`other_bags`, `bags`), and each call says which loans and descriptors
 //!   stay (`loans`, `descs`). If a buffer is the caller's and unsent is read off its bag. `end`
 //!   deletes the caller's pipes, gives its unsent buffers and grants back, and empties its bag.
+//! - Blocks of unsent buffers may be lent out of the bag, to be written in place elsewhere. The
+//!   calls `.._lending` are those that take a bag, but for `end`, while some are: calls of pipes
+//!   ask for the views (`HasOwnViews`), those of a buffer for its block (`HasBuffer`), `allocate`
+//!   for a bag that has all once the lent blocks are put back. Each leaves a bag that has all then
+//!   (`KeepsBag`, `KeepsBagBut`).
 //! - The readers `pool`, `desk`, `app_pools`, `app_pool`, `pools`, `events`, `counters`, `in_use`
 //!   and `recall_sends` show of the state what those of `sb_calls` show of the journal's.
 //!   `recall_loans`: last messages of one send have one loan. The steps are those of `sb_calls`.
 //! - Behind this: an application that waits does so on a pipe of its own that has no last message
 //!   (`AreReady` of `specs/Inside.antt`).
 //!
-//! By reading: only [`PlainBus::new`] takes memory, and what is in use is read in constant time.
-//! Not yet: a bound on the steps of `delete_pipe` and `end`.
+//! By reading: only [`PlainBus::new`] and [`PlainBus::new_bag`] take memory, and what is in use is
+//! read in constant time. Not yet: a bound on the steps of `delete_pipe` and `end`.
 //!
 //! Tested by `rows_core` and the tests of `host_run`, through `sb_calls`; `cost_bus` opens it
 //! alone.
@@ -76,6 +81,7 @@ mod causes;
 mod counters;
 mod events;
 mod leaving;
+mod lending;
 mod opening;
 mod permits;
 mod pipe_ends;
@@ -89,6 +95,7 @@ mod sending;
 mod subscribing;
 mod uses;
 
+pub use permits::is_within;
 pub use plain::PlainBus;
 pub use receiving::Pended;
 pub use sending::Sent;

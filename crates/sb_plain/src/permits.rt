@@ -83,8 +83,9 @@ impl<'r> PlainBus<'r> {
     }
 }
 
-// Whether the call's name, message or event's text is short enough, and its log mode is one.
-fn is_within(call: &BusCall<'_>) -> bool
+/// Whether the call's name, message or event's text is short enough, and its log mode is one, which
+/// is a condition of the call: at most 64 bytes, 65542 and 200, and 0 or 1.
+pub fn is_within(call: &BusCall<'_>) -> bool
     ensures { result ≡ is_within (call_of call.now) }
 {
     match call {

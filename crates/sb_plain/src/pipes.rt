@@ -66,15 +66,7 @@ impl<'r> PlainBus<'r> {
         ensures other_bags { KeepsOtherBags self.old self.new app }
         ensures buffers { held.new ≡ record held.old { views = held.new.views } }
     {
-        if let Some(status) = self.unowned_cause(app, pipe) {
-            self.refuse(CounterName::Create);
-            return Err(status);
-        }
-        // Does nothing; the proof learns of it that no two applications have one pipe.
-        self.store.recall_order();
-        self.store.delete_pipe(app, pipe, held, steps);
-        see(&mut self.records, &self.store);
-        Ok(())
+        self.delete_pipe_lending(app, pipe, held, steps)
     }
 
     /// Sets the option bits of the caller's pipe. With 0x01 the messages that the caller itself

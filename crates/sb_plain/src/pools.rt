@@ -1,15 +1,17 @@
 //! The calls of memory pools, which any application may create and use (cFE Executive Services,
 //! memory pools). They lend no bytes: what a pool hands out are numbered grants of its blocks.
-ghost use Rattle.std.specs.Prelude.{◌≡◌, ℕ, ◌+◌, ◌≤◌, false, length, Err, IfOk, IsTrue};
+ghost use Rattle.std.specs.Prelude.{◌≡◌, ℕ, ◌+◌, ◌≤◌, false, length, slice_index, Err, IfOk, IsTrue};
+ghost use Rattle.std.specs.Result.{result_err};
+ghost use Rattle.fsw_base.specs.PoolAccounts.{overhead};
 ghost use Rattle.es_pool.specs.Account.{IsAccountOf};
-ghost use Rattle.pool_words.specs.Grants.{is_pool, pool_in, pool_account, has_numbers};
+ghost use Rattle.pool_words.specs.Grants.{is_pool, pool_in, pool_account, answer_in, put_answer, class_under, has_numbers};
 ghost use Rattle.bus_words.specs.declared.history.Call.TheVariants.{PoolCreate, PoolGet, PoolPut, PoolFigures};
 ghost use Rattle.sb_plain.specs.Core.{MayAct, Acts};
 ghost use Rattle.sb_plain.specs.Answers.{pool_told, grant_back, figures_told};
 ghost use Rattle.sb_plain.specs.Bags.{KeepsBags, KeepsAllLoans, KeepsAllDescs};
 
 use crate::plain::PlainBus;
-use app_pools::AppPools;
+use app_pools::{AppPools, GrantBlock};
 use es_pool::Pool;
 use fsw_base::{AppNo, EsStatus, PoolStats};
 use step_count::{Ledger, Steps};
@@ -87,6 +89,26 @@ impl<'r> PlainBus<'r> {
         ensures descs { KeepsAllDescs self.old self.new }
     {
         self.pools.put(pool, grant, steps)
+    }
+
+    /// Where the block of a grant of a pool lies, for a caller that has memory of the pool's size.
+    /// By the code, it stays there until the grant is given back, and no two grants that are out
+    /// have a byte in common. It is no call of the bus, and nothing is counted.
+    ///
+    /// # Errors
+    /// Those of [`PlainBus::pool_put`].
+    pub fn pool_block(&self, pool: u32, grant: u64) -> Result<GrantBlock, EsStatus>
+        ensures refused { result_err result ≡
+            result_err (answer_in self.now.whole.bus.pools pool
+            (put_answer (pool_in self.now.whole.bus.pools pool) grant)) }
+        ensures behind { IfOk result (λ block. overhead ≤ block.offset) }
+        ensures within { IfOk result (λ block. block.offset + block.size ≤
+            (pool_in self.now.whole.bus.pools pool).bytes) }
+        ensures size { IfOk result (λ block. block.size ≡
+            slice_index (pool_in self.now.whole.bus.pools pool).sizes
+            (class_under (pool_in self.now.whole.bus.pools pool).out grant)) }
+    {
+        self.pools.block(pool, grant)
     }
 
     /// Answers a pool's figures: its bytes, the blocks drawn, the returns refused, and the bytes

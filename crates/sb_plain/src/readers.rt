@@ -1,8 +1,9 @@
 //! What the core tells of its pool, and of the blocks and loans of messages.
-ghost use Rattle.std.specs.Prelude.{◌≡◌, ℕ, Some, All, AllPairs, sum_by};
+ghost use Rattle.std.specs.Prelude.{◌≡◌, ℕ, Some, All, AllPairs, length, sum_by};
+ghost use Rattle.std.specs.Option.{option_map};
 ghost use Rattle.es_pool.specs.Account.{IsAccountOf};
 ghost use Rattle.es_pool.specs.Pool.{in_use_by};
-ghost use Rattle.bus_words.specs.Bus.{Item};
+ghost use Rattle.bus_words.specs.Bus.{Item, pipe_at};
 ghost use Rattle.bus_words.specs.Held.{account_of, items_of, held, block_of};
 ghost use Rattle.bus_store.specs.Blocks.{IsGiven, AreOfOneSend, AreBlocks, IsBlockPool};
 ghost use Rattle.bus_words.specs.Pipes.{last_on};
@@ -18,6 +19,15 @@ impl<'r> PlainBus<'r> {
         ensures { result ≡ self.now.limits.version }
     {
         self.config.version
+    }
+
+    /// How many messages wait on the live pipe of this number, of any application; None if no such
+    /// pipe is live. It is no call of the bus, and nothing is counted.
+    pub fn waiting_count(&self, pipe: u32) -> Option<u32>
+        ensures { result ≡
+            option_map (λ it. length it.queue) (pipe_at self.now.whole.bus.pipes pipe) }
+    {
+        self.store.waiting_count(pipe)
     }
 
     /// The blocks of messages and of unsent buffers: one for each number that is held, and no

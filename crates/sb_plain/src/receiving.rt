@@ -15,7 +15,6 @@ ghost use Rattle.sb_plain.specs.Bags.{HasBag, KeepsOtherBags, KeepsLoans, KeepsA
 
 use crate::activities::Activity;
 use crate::plain::PlainBus;
-use crate::uses::see;
 use buf_desc::Held;
 use bus_store::BusStore;
 use fsw_base::{AppNo, SbStatus};
@@ -74,21 +73,7 @@ impl<'r> PlainBus<'r> {
         ensures buffers { held.new ≡ record held.old { views = held.new.views } }
         ensures cost { steps.new ≤ steps.old + 32 }
     {
-        // Do nothing; the proof learns of them that no two applications have one pipe, that each
-        // message has a number that was given, and, here and below, which blocks are out.
-        self.store.recall_order();
-        self.store.recall_sends();
-        self.store.recall_held();
-        let Some(received) = self.store.receive_if_owned(app, pipe, held, steps) else {
-            self.refuse(CounterName::Recv);
-            return Err(SbStatus::BadArgument);
-        };
-        // No more is in use than before, so no peak is looked at.
-        self.store.recall_held();
-        let Some(number) = received else {
-            return Err(SbStatus::NoMessage);
-        };
-        Ok(number)
+        self.receive_lending(app, pipe, held, steps)
     }
 
     /// Takes the oldest message that waits on the caller's pipe, and answers its number: its view
@@ -122,17 +107,7 @@ impl<'r> PlainBus<'r> {
         ensures buffers { held.new ≡ record held.old { views = held.new.views } }
         ensures cost { steps.new ≤ steps.old + 32 }
     {
-        if let Some(status) = self.unowned_cause(app, pipe) {
-            self.refuse(CounterName::Recv);
-            return Err(status);
-        }
-        // Does nothing; the proof learns of it that no two applications have one pipe.
-        self.store.recall_order();
-        let answer = self.pended(app, pipe);
-        self.store.receive(app, pipe, held, steps);
-        set_waiting(&mut self.activities, app, pipe, &answer);
-        see(&mut self.records, &self.store);
-        Ok(answer)
+        self.pend_lending(app, pipe, held, steps)
     }
 
     /// The pipe that the application waits on; 0, which no pipe has, where it doesn't wait.
@@ -161,16 +136,7 @@ impl<'r> PlainBus<'r> {
         ensures other_bags { KeepsOtherBags self.old self.new app }
         ensures buffers { held.new ≡ record held.old { views = held.new.views } }
     {
-        let answer = self.pended(app, pipe);
-        if answer.is_pending() {
-            return answer;
-        }
-        // Does nothing; the proof learns of it that no two applications have one pipe.
-        self.store.recall_order();
-        self.store.receive_first(app, pipe, held);
-        self.activities[(app.get() - 1) as usize] = Activity::Active;
-        see(&mut self.records, &self.store);
-        answer
+        self.look_lending(app, pipe, held)
     }
 
     /// Whether a waiting application would be answered if it looked now: with a message on its
@@ -190,8 +156,8 @@ impl<'r> PlainBus<'r> {
         is_anyone_served(&self.activities, &self.store)
     }
 
-    // What a receive on the pipe that may wait is answered.
-    fn pended(&self, app: AppNo, pipe: u32) -> Pended
+    /// What a receive on the pipe that may wait is answered.
+    pub(crate) fn pended(&self, app: AppNo, pipe: u32) -> Pended
         requires { app ≤ apps_in self.now }
         ensures answer { waited result ≡ pended_answer self.now.whole.bus app pipe }
         ensures given { (number : ℕ) → result ≡ Pended.Got number →
@@ -292,8 +258,8 @@ fn has_message(activity: &Activity, store: &BusStore<'_>) -> bool
     is_waiting(activity) && !is_idle(activity, store)
 }
 
-// Has the application wait on the pipe where it was told so.
-fn set_waiting(activities: &mut Vec<Activity>, app: AppNo, pipe: u32, answer: &Pended)
+/// Has the application wait on the pipe where it was told so.
+pub(crate) fn set_waiting(activities: &mut Vec<Activity>, app: AppNo, pipe: u32, answer: &Pended)
     requires { app ≤ length activities.old.items }
     ensures { activities.new.items ≡
         (if is_pending answer.now

@@ -8,6 +8,7 @@ ghost use Rattle.subscriptions.specs.Inside.{held_at, recounted, with_slot, with
 use crate::place::Place;
 use crate::words::{SubNo, SubRow, Verdict};
 use fsw_base::Scope;
+use ruled_out::{ruled_out, surely_some};
 use std::alloc::{AllocError, Global};
 use std::marker::Model;
 
@@ -139,7 +140,7 @@ impl Subs {
         requires { IsSome (live_at self.now sub) }
         ensures { option_map row_of (live_at self.now sub) ≡ Some result }
     {
-        held(&self.slots, sub).unwrap().row()
+        surely_some(self.slots[sub.slot as usize]).row()
     }
 
     /// What the limit of a subscription says of one message more; one that has ended has no limit.
@@ -246,7 +247,7 @@ fn count_up_held(slot: &mut Option<Place>, number: u32)
 {
     match slot {
         Some(place) => place.waiting += 1,
-        None => unreachable!(),
+        None => ruled_out!(),
     }
 }
 

@@ -7,10 +7,16 @@
 //! takes memory.
 //!
 //! ```text
-//! let image = read_image(file)?;
-//! image.name                           // b"A.T"
-//! image.offset                         // 0: where in the table its bytes are loaded
-//! image.bytes                          // what is loaded there
+//! /// Where in its table an image is loaded, and what; None for an image of another table.
+//! fn load_of<'a>(file: &'a [u8], table: &[u8]) -> Result<Option<(u32, &'a [u8])>, ImageFault>
+//!     requires { length file.now < 2 ^ 32 }
+//! {
+//!     let image = read_image(file)?;              // or why the file is none
+//!     if image.name != table {                    // a name such as b"A.T"
+//!         return Ok(None);
+//!     }
+//!     Ok(Some((image.offset, image.bytes)))
+//! }
 //! ```
 #![tactic(auto)]
 

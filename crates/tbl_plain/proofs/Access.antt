@@ -13,7 +13,7 @@ use Rattle.tbl_registry.specs.Listing.{Table, IsTied, handle_at, table_named}
 use Rattle.tbl_plain.specs.declared.plain.PlainTables.TheInside.{Inside}
 use Rattle.tbl_plain.specs.Inside.{means, table_in}
 use Rattle.tbl_plain.specs.Refusals.{unless, own_handle}
-use Rattle.tbl_plain.proofs.Meaning.{alike, named_here}
+use Rattle.tbl_plain.proofs.Fields.{alike, named_here}
 
 pub any_found : {X : Type 0} (p : X → Bool) (xs : List X) → list_any p xs ≡ is_some (find p xs)
 any_found p [] = refl

@@ -26,7 +26,7 @@ use Rattle.tbl_plain.specs.Inside.{plain_of, means, table_in, table_with, handle
 use Rattle.tbl_plain.specs.Views.{held_by, views_of, after_back, with_back}
 use Rattle.tbl_plain.proofs.OtherVersions.{key_room}
 use Rattle.tbl_plain.proofs.Figures.{HasContent}
-use Rattle.tbl_plain.proofs.Meaning.{handle_here, table_here}
+use Rattle.tbl_plain.proofs.Fields.{handle_here, table_here}
 use Rattle.tbl_plain.proofs.HandleViews.{reheld_keeps, reheld_acts, reheld_bag}
 use Rattle.tbl_plain.proofs.Relends.{Relends, back_relends, given_relends}
 use Rattle.tbl_plain.proofs.Returns.{set_set, content_set, back_tables, back_pool, back_most, view_out, few_views, told_before}

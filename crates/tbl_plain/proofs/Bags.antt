@@ -17,7 +17,7 @@ use Rattle.tbl_plain.specs.declared.plain.PlainTables.TheInside.{Inside}
 use Rattle.tbl_plain.specs.Core.{Lent, loan_of, view_of, view_due, views_due, Holds}
 use Rattle.tbl_plain.specs.Inside.{plain_of, handle_in, hold_of, lent_in}
 use Rattle.tbl_plain.specs.Views.{held_by}
-use Rattle.tbl_plain.proofs.Meaning.{count_alike, found_all, handle_here}
+use Rattle.tbl_plain.proofs.Fields.{count_alike, found_all, handle_here}
 
 -- the view of what a handle holds
 abbrev pub held_view : List (Option Content) → Handle → Option LentBytes

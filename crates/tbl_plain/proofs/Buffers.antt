@@ -16,7 +16,7 @@ use Rattle.tbl_blocks.specs.Blocks.{has_buffer, buffers_taken}
 use Rattle.tbl_blocks.specs.Contents.{Content, no_content, kept_at, content_at, is_staged}
 use Rattle.tbl_plain.specs.declared.plain.PlainTables.TheInside.{Inside}
 use Rattle.tbl_plain.specs.Inside.{means, table_in, staged_of, IsFilled, Keeps}
-use Rattle.tbl_plain.proofs.Meaning.{count_alike}
+use Rattle.tbl_plain.proofs.Fields.{count_alike}
 
 -- Counts. --
 

@@ -12,7 +12,7 @@ use Rattle.tbl_blocks.specs.Contents.{Content, no_content, content_at}
 use Rattle.tbl_plain.specs.Inside.{table_in, table_with, handle_in, handle_with}
 use Rattle.tbl_plain.specs.Views.{held_by}
 use Rattle.tbl_plain.proofs.Bags.{held_view}
-use Rattle.tbl_plain.proofs.Meaning.{found_all}
+use Rattle.tbl_plain.proofs.Fields.{found_all}
 use Rattle.tbl_plain.proofs.Registers.{map_all}
 
 pub map-map : {X Y Z : Type 0} (f : Y → Z) (g : X → Y) (xs : List X) → map f (map g xs) ≡ map (λ x. f (g x)) xs

@@ -28,7 +28,7 @@ use Rattle.tbl_plain.proofs.Bags.{due_by, is_due, known_handle, bags_go_on}
 use Rattle.tbl_plain.proofs.OtherVersions.{itself}
 use Rattle.tbl_plain.proofs.Changes.{map-map}
 use Rattle.tbl_plain.proofs.Figures.{HasContent}
-use Rattle.tbl_plain.proofs.Meaning.{found_all}
+use Rattle.tbl_plain.proofs.Fields.{found_all}
 use Rattle.tbl_plain.proofs.UniqueNumbers.{only_handle, only_table}
 use Rattle.tbl_plain.proofs.Registers.{map_all, none_staged}
 

@@ -17,7 +17,7 @@ use Rattle.tbl_blocks.specs.Held.{HeldViews}
 use Rattle.tbl_words.proofs.Leaves.{leaves_add_up}
 use Rattle.tbl_plain.specs.Answers.{done}
 use Rattle.tbl_plain.specs.Core.{Plain, Holds, MayAct}
-use Rattle.tbl_plain.proofs.Meaning.{found_all}
+use Rattle.tbl_plain.proofs.Fields.{found_all}
 
 -- Lists. --
 

@@ -17,7 +17,7 @@ use Rattle.tbl_plain.specs.Core.{Plain, Acts}
 use Rattle.tbl_plain.specs.Inside.{plain_of, means, handle_in, hold_of, figures_in, is_this, is_other, IsFilled, Keeps}
 use Rattle.tbl_plain.proofs.CallLaws.{step_by, acts_still}
 use Rattle.tbl_plain.proofs.Access.{IsOwned, access_by}
-use Rattle.tbl_plain.proofs.Meaning.{IsOf, its_table, known_by, table_here, found_all}
+use Rattle.tbl_plain.proofs.Fields.{IsOf, its_table, known_by, table_here, found_all}
 
 -- Holds. --
 

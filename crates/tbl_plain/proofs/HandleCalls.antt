@@ -12,7 +12,7 @@ use Rattle.tbl_plain.specs.Inside.{means, table_in}
 use Rattle.tbl_plain.specs.Refusals.{unless, own_handle, registered_one, own_table}
 use Rattle.tbl_plain.proofs.Access.{IsOwned, any_found, access_by, err_of, ok_of, app_of, refused_here, owned_here}
 use Rattle.tbl_plain.proofs.TableContents.{table_cause_by}
-use Rattle.tbl_plain.proofs.Meaning.{its_table}
+use Rattle.tbl_plain.proofs.Fields.{its_table}
 
 pub record Reaches (a : Inside) (app n : ℕ) (h : Handle) : Type 0 where
   pub own : IsOwned (handle_at a.registry.handles n) app h

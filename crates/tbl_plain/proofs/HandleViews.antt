@@ -30,7 +30,7 @@ use Rattle.tbl_plain.proofs.Bags.{held_view, due_by, is_due, known_handle, bags_
 use Rattle.tbl_plain.proofs.OtherVersions.{itself, tables_now, kept_now, now}
 use Rattle.tbl_plain.proofs.Changes.{map-map}
 use Rattle.tbl_plain.proofs.Figures.{HasContent}
-use Rattle.tbl_plain.proofs.Meaning.{found_all}
+use Rattle.tbl_plain.proofs.Fields.{found_all}
 use Rattle.tbl_plain.proofs.UniqueNumbers.{only_handle, only_table}
 use Rattle.tbl_plain.proofs.Registers.{map_all}
 use Rattle.tbl_plain.proofs.Relends.{one_if, Relends, relent_table, relent_handle, relent_view}

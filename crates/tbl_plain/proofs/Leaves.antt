@@ -40,7 +40,7 @@ use Rattle.tbl_plain.proofs.Changes.{map-map}
 use Rattle.tbl_plain.proofs.Drops.{counted, unstaged_left, dropped_means, dropped_keeps, dropped_bags}
 use Rattle.tbl_plain.proofs.Figures.{HasContent}
 use Rattle.tbl_plain.proofs.TableContents.{blocks_still}
-use Rattle.tbl_plain.proofs.Meaning.{found_all, table_here}
+use Rattle.tbl_plain.proofs.Fields.{found_all, table_here}
 use Rattle.tbl_plain.proofs.Pools.{made_counted}
 use Rattle.tbl_plain.proofs.RegisterCalls.{not_so}
 use Rattle.tbl_plain.proofs.Registers.{count_none}

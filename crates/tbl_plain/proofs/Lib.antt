@@ -9,11 +9,12 @@ pub mod Drops
 pub mod Ends
 pub mod Figures
 pub mod HandleCalls
+pub mod HandleReads
 pub mod HandleViews
 pub mod InUse
 pub mod Leaves
 pub mod Loads
-pub mod Meaning
+pub mod Fields
 pub mod NewCores
 pub mod NewTables
 pub mod OneLoan

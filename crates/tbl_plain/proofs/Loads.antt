@@ -14,7 +14,7 @@ use Rattle.tbl_plain.specs.declared.plain.PlainTables.TheInside.{Inside}
 use Rattle.tbl_plain.specs.Core.{Plain, HasNextVersion}
 use Rattle.tbl_plain.specs.Inside.{plain_of, means, table_in, table_with, staged_of}
 use Rattle.tbl_plain.proofs.Figures.{HasContent}
-use Rattle.tbl_plain.proofs.Meaning.{table_here}
+use Rattle.tbl_plain.proofs.Fields.{table_here}
 use Rattle.tbl_plain.proofs.Validations.{with_staging, staged_there}
 
 -- An update. --

@@ -10,7 +10,7 @@ use Rattle.tbl_blocks.specs.Contents.{version_at, content_at}
 use Rattle.tbl_plain.specs.declared.plain.PlainTables.TheInside.{Inside}
 use Rattle.tbl_plain.specs.Core.{Lent, HoldsVersion, AreOneLoan, loan_of}
 use Rattle.tbl_plain.specs.Inside.{plain_of, means, handle_with, handle_in, hold_of, lent_in}
-use Rattle.tbl_plain.proofs.Meaning.{IsOf, its_table, known_by, handle_here}
+use Rattle.tbl_plain.proofs.Fields.{IsOf, its_table, known_by, handle_here}
 
 -- the table of a handle is found by its number
 pub number_of : (a : Inside) → IsTied a.registry → (h : Handle) → (of : IsOf a h) → find (λ (t : Table). eqb t.number h.table) a.registry.tables ≡ Some of.t

@@ -28,7 +28,7 @@ use Rattle.tbl_plain.proofs.Bags.{held_view, bags_still}
 use Rattle.tbl_plain.proofs.Changes.{tables_changed, handles_still, views_still}
 use Rattle.tbl_plain.proofs.Figures.{HasContent}
 use Rattle.tbl_plain.proofs.TableContents.{changed_keeps}
-use Rattle.tbl_plain.proofs.Meaning.{found_all, table_here}
+use Rattle.tbl_plain.proofs.Fields.{found_all, table_here}
 
 -- Handles that hold no version but the present one. --
 

@@ -20,7 +20,7 @@ use Rattle.tbl_plain.specs.declared.plain.PlainTables.TheInside.{Inside}
 use Rattle.tbl_plain.specs.Core.{Plain, Holds, Acts}
 use Rattle.tbl_plain.specs.Inside.{plain_of, means, table_in, Keeps}
 use Rattle.tbl_plain.proofs.CallLaws.{step_by, acts_from, acts_still, acts_refused}
-use Rattle.tbl_plain.proofs.Meaning.{alike, named_here}
+use Rattle.tbl_plain.proofs.Fields.{alike, named_here}
 use Rattle.tbl_plain.proofs.Pools.{fits_alike}
 use Rattle.tbl_plain.proofs.Shares.{IsNamed}
 

@@ -30,7 +30,7 @@ use Rattle.tbl_plain.specs.declared.plain.PlainTables.TheInside.{Inside}
 use Rattle.tbl_plain.specs.Inside.{means, table_in, table_with, handle_in, handle_with, staged_of, each_below, is_this, is_other, IsRecent, IsFilled, Keeps}
 use Rattle.tbl_plain.specs.Views.{held_by}
 use Rattle.tbl_plain.proofs.Bags.{held_view}
-use Rattle.tbl_plain.proofs.Meaning.{found_all}
+use Rattle.tbl_plain.proofs.Fields.{found_all}
 use Rattle.tbl_plain.proofs.Pools.{draws_all, made_counted}
 use Rattle.tbl_plain.proofs.Shares.{live_still, grown}
 

@@ -16,7 +16,7 @@ use Rattle.tbl_plain.specs.Inside.{plain_of, is_this, is_other, IsRecent, Keeps}
 use Rattle.tbl_plain.specs.Views.{held_by, views_of, after_back, with_back}
 use Rattle.tbl_plain.proofs.Bags.{held_view, due_by, is_due, due_here, dues_here}
 use Rattle.tbl_plain.proofs.Figures.{HasContent}
-use Rattle.tbl_plain.proofs.Meaning.{found_all}
+use Rattle.tbl_plain.proofs.Fields.{found_all}
 
 -- Lists with one place set. --
 

@@ -26,7 +26,7 @@ use Rattle.tbl_plain.specs.Inside.{plain_of, means, table_in, table_with, handle
 use Rattle.tbl_plain.proofs.CallLaws.{step_by, acts_from, acts_refused}
 use Rattle.tbl_plain.proofs.Access.{share_checked}
 use Rattle.tbl_plain.proofs.Bags.{bags_grown}
-use Rattle.tbl_plain.proofs.Meaning.{named_here, found_all}
+use Rattle.tbl_plain.proofs.Fields.{named_here, found_all}
 
 -- The table of a name, by its key. --
 

@@ -21,7 +21,7 @@ use Rattle.tbl_plain.proofs.OtherVersions.{KeepsPresent}
 use Rattle.tbl_plain.proofs.Buffers.{staged_alike, taken_alike, all_taken}
 use Rattle.tbl_plain.proofs.TableQuestions.{table_by}
 use Rattle.tbl_plain.proofs.Figures.{HasContent, holds_here}
-use Rattle.tbl_plain.proofs.Meaning.{count_alike}
+use Rattle.tbl_plain.proofs.Fields.{count_alike}
 
 -- What bars a load, in order. --
 

@@ -21,7 +21,7 @@ use Rattle.tbl_blocks.specs.Contents.{Content, no_content, kept_at, content_at, 
 use Rattle.tbl_plain.specs.declared.plain.PlainTables.TheInside.{Inside}
 use Rattle.tbl_plain.specs.Inside.{means, table_in, each_below, is_this, is_other, IsRecent, IsFilled, Keeps}
 use Rattle.tbl_plain.proofs.Access.{IsOwned, access_by}
-use Rattle.tbl_plain.proofs.Meaning.{table_here}
+use Rattle.tbl_plain.proofs.Fields.{table_here}
 
 -- a call by a handle that the application owns: its table is unregistered, or what the table says
 pub table_cause_by : (a : Inside) → IsTied a.registry → (app n : ℕ) (h : Handle) (t : Table) (others : state.Table → Option TblStatus) → IsOwned (handle_at a.registry.handles n) app h → table_at a.registry.tables h.key ≡ Some t →

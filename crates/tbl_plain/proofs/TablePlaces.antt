@@ -15,7 +15,7 @@ use Rattle.tbl_plain.specs.Blocks.{is_version, IsInBlocks, IsKeptAt, AreTableBlo
 use Rattle.tbl_plain.specs.Core.{HoldsVersion, loan_of}
 use Rattle.tbl_plain.specs.Inside.{plain_of, means, table_in, handle_in, hold_of, is_this, is_other, IsFilled, Keeps}
 use Rattle.tbl_plain.proofs.Buffers.{taken_alike}
-use Rattle.tbl_plain.proofs.Meaning.{found_all, count_alike, known_by, table_there, its_table}
+use Rattle.tbl_plain.proofs.Fields.{found_all, count_alike, known_by, table_there, its_table}
 use Rattle.tbl_plain.proofs.OneLoan.{lends, number_of}
 use Rattle.tbl_plain.proofs.Shares.{found_by_key}
 

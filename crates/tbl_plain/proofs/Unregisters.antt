@@ -16,7 +16,7 @@ use Rattle.tbl_blocks.specs.Contents.{content_at}
 use Rattle.tbl_plain.specs.declared.plain.PlainTables.TheInside.{Inside}
 use Rattle.tbl_plain.specs.Core.{Plain}
 use Rattle.tbl_plain.specs.Inside.{plain_of, handle_in, hold_of}
-use Rattle.tbl_plain.proofs.Meaning.{handle_here}
+use Rattle.tbl_plain.proofs.Fields.{handle_here}
 
 -- What a release says of the state. --
 

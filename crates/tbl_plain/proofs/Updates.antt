@@ -28,7 +28,7 @@ use Rattle.tbl_plain.proofs.Changes.{handles_changed, views_still}
 use Rattle.tbl_plain.proofs.Figures.{HasContent}
 use Rattle.tbl_plain.proofs.TableContents.{changed_keeps}
 use Rattle.tbl_plain.proofs.Registers.{count_none}
-use Rattle.tbl_plain.proofs.Meaning.{count_alike}
+use Rattle.tbl_plain.proofs.Fields.{count_alike}
 
 -- no version is the one after it
 later : (n : ℕ) → eqb n (n + 1) ≡ false

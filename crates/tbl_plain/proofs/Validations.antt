@@ -21,7 +21,7 @@ use Rattle.tbl_plain.specs.declared.plain.PlainTables.TheInside.{Inside}
 use Rattle.tbl_plain.specs.Inside.{staged_of, table_with, Keeps}
 use Rattle.tbl_plain.proofs.OtherVersions.{KeepsPresent}
 use Rattle.tbl_plain.proofs.Figures.{HasContent}
-use Rattle.tbl_plain.proofs.Meaning.{found_all}
+use Rattle.tbl_plain.proofs.Fields.{found_all}
 
 -- rules without a misfit ask for bytes that are there
 pub all_fit : (size : ℕ) (rules : List Rule) → has_misfit size rules ≡ false → All (λ rule. rule.offset < size) rules

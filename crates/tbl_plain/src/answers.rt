@@ -12,6 +12,15 @@ pub struct PlainAddress {
     pub version: u64,
 }
 
+/// What a table is, from its registration to its end.
+#[derive(Clone, Copy, Debug, PartialEq, Eq)]
+pub struct PlainShape {
+    /// Its bytes.
+    pub size: u32,
+    /// 0 single buffered, 1 double buffered, 2 single buffered and dump only.
+    pub option: u32,
+}
+
 /// The figures of a table.
 #[derive(Clone, Copy, Debug, PartialEq, Eq)]
 pub struct PlainState {

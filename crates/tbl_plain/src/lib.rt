@@ -67,5 +67,5 @@ mod registering;
 mod staging;
 mod validation;
 
-pub use answers::{PlainAddress, PlainState};
+pub use answers::{PlainAddress, PlainShape, PlainState};
 pub use plain::PlainTables;

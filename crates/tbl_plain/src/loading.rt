@@ -1,5 +1,9 @@
 //! Loads: a value is staged, validated and made the table's.
-ghost use Rattle.std.specs.Prelude.{◌≡◌};
+ghost use Rattle.std.specs.Prelude.{◌≡◌, Some, IfOk, IsSomeAnd};
+ghost use Rattle.std.specs.Option.{option_map};
+ghost use Rattle.std.specs.Result.{result_err};
+ghost use Rattle.tbl_words.specs.Machine.{cause};
+ghost use Rattle.tbl_words.specs.Tables.{table_of};
 ghost use Rattle.tbl_words.specs.declared.history.Call.TheVariants.{Stage, Validate, Update, Abort, Load};
 ghost use Rattle.tbl_plain.specs.Core.{MayAct, Acts, HasNextVersion, answer_behind_last};
 ghost use Rattle.tbl_plain.specs.Answers.{done};
@@ -69,6 +73,25 @@ impl<'r> PlainTables<'r> {
         }
         self.blocks.set_validated(key);
         Ok(())
+    }
+
+    /// The staged value of the table of a handle of the caller's. It is no call of the tables.
+    ///
+    /// # Errors
+    /// Those of [`PlainTables::abort_load`].
+    pub fn staged_bytes(&self, app: AppNo, handle: u32) -> Result<&[u8], TblStatus>
+        ensures refused { result_err result ≡
+            cause self.now.limits self.now.state app (Abort handle) }
+        ensures value { IfOk result (λ bytes. IsSomeAnd (table_of self.now.state handle)
+            (λ t. option_map (λ staged. staged.value) t.staged ≡ Some bytes.now)) }
+    {
+        self.registry.recall_ties();
+        let row = own_table(&self.registry, app, handle)?;
+        let key = row.key as u32;
+        if !self.blocks.is_staged(key) {
+            return Err(TblStatus::NoLoad);
+        }
+        Ok(self.blocks.staged_value(key))
     }
 
     /// Drops the staged value of the table of a handle of the caller's.

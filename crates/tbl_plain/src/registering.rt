@@ -1,14 +1,16 @@
 //! Registrations, shares and figures of tables.
-ghost use Rattle.std.specs.Prelude.{◌≡◌, ◌==◌, ◌||◌, ◌+◌, ◌≤◌, None, nat_lt, length, IsTrue, ◌<◌, ◌^◌, true};
+ghost use Rattle.std.specs.Prelude.{◌≡◌, ◌==◌, ◌||◌, ◌+◌, ◌≤◌, None, nat_lt, length, IfOk, IsSomeAnd, IsTrue, ◌<◌, ◌^◌, true};
+ghost use Rattle.std.specs.Result.{result_err};
+ghost use Rattle.tbl_words.specs.Tables.{table_of};
 ghost use Rattle.tbl_words.specs.declared.history.Call.TheVariants.{Register, Share, Status};
 ghost use Rattle.tbl_rules.specs.Rules.{is_misfit, has_misfit};
-ghost use Rattle.tbl_words.specs.Machine.{unfit_cause, new_table_cause, staged_number};
+ghost use Rattle.tbl_words.specs.Machine.{cause, unfit_cause, new_table_cause, staged_number};
 ghost use Rattle.tbl_plain.specs.Core.{MayAct, Acts, has_handle_number};
 ghost use Rattle.tbl_plain.specs.Answers.{registered, shared, state_of, plain_figures_told};
 ghost use Rattle.tbl_blocks.specs.Contents.{older_in, is_open, content_at};
 ghost use Rattle.tbl_plain.specs.Inside.{staged_of, figures_in};
 
-use crate::answers::PlainState;
+use crate::answers::{PlainShape, PlainState};
 use crate::handles::own_handle;
 use crate::plain::PlainTables;
 use fsw_base::AppNo;
@@ -123,6 +125,26 @@ impl<'r> PlainTables<'r> {
         self.registry.recall_ties();
         let row = own_handle(&self.registry, app, handle)?;
         Ok(figures(&self.blocks, row.key as u32))
+    }
+
+    /// What the table of a handle of the caller's is, registered or not. It is no call of the
+    /// tables.
+    ///
+    /// # Errors
+    /// Those of [`PlainTables::status`].
+    pub fn shape(&self, app: AppNo, handle: u32) -> Result<PlainShape, TblStatus>
+        ensures refused { result_err result ≡
+            cause self.now.limits self.now.state app (Status handle) }
+        ensures shape { IfOk result (λ shape. IsSomeAnd (table_of self.now.state handle)
+            (λ t. (shape.size ≡ t.size) × (shape.option ≡ t.option))) }
+    {
+        self.registry.recall_ties();
+        let row = own_handle(&self.registry, app, handle)?;
+        let key = row.key as u32;
+        Ok(PlainShape {
+            size: self.blocks.size(key),
+            option: self.blocks.option(key),
+        })
     }
 }
 

@@ -269,10 +269,14 @@ length-ended_by app (ReleaseAddress handle) ended = refl
 length-ended_by app (Status handle) ended = refl
 length-ended_by app End ended = length-set ended (app - 1) true
 
+-- so no call changes how many there are
+pub applications_stay : (limits : Limits) (s : State) (app : ℕ) (call : Call) → length ((step limits s app call).1).ended ≡ length s.ended
+applications_stay limits s app call = ap (length {A = Bool}) (ended-step limits s app call) ∙ length-ended_by app call s.ended
+
 known_from : (limits : Limits) (s : State) (es : List Entry) → length (state_from limits s es).ended ≡ length s.ended
 known_from limits s [] = refl
 known_from limits s (e ∷ es) =
-    known_from limits ((step limits s e.app e.call).1) es ∙ ap (length {A = Bool}) (ended-step limits s e.app e.call) ∙ length-ended_by e.app e.call s.ended
+    known_from limits ((step limits s e.app e.call).1) es ∙ applications_stay limits s e.app e.call
 
 pub known_after : (limits : Limits) (apps : ℕ) (history : List Entry) → length (state_after limits apps history).ended ≡ apps
 known_after limits apps history = known_from limits (opening limits apps) history ∙ length-replicate apps false

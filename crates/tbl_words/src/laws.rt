@@ -1,8 +1,9 @@
 //! What holds of every history of the tables, whoever kept it.
-ghost use Rattle.std.specs.Prelude.{◌≡◌, ◌≤◌, ℕ, true, false, List, [], ◌∷◌, ◌++◌, IsTrue};
+ghost use Rattle.std.specs.Prelude.{◌≡◌, ◌≤◌, ℕ, true, false, List, [], ◌∷◌, ◌++◌, length, IsTrue};
 ghost use Rattle.fsw_base.specs.Limits.{Limits};
+ghost use Rattle.tbl_words.specs.declared.history.Call.{Call};
 ghost use Rattle.tbl_words.specs.declared.history.Entry.{Entry};
-ghost use Rattle.tbl_words.specs.Tables.{opening, has_ended, owns};
+ghost use Rattle.tbl_words.specs.Tables.{State, opening, has_ended, owns};
 ghost use Rattle.tbl_words.specs.Machine.{step, state_after, may_call, IsLegal};
 ghost use Rattle.tbl_words.specs.Runs.{callers, run_from, Follows};
 ghost use Rattle.tbl_words.specs.Leaves.{LeavesAddUp, HoldsNothing};
@@ -61,6 +62,13 @@ pub fn ends_leave_nothing()
         ((app : ℕ) → 1 ≤ app → app ≤ apps →
         has_ended (state_after limits apps history) app ≡ true) →
         HoldsNothing limits (state_after limits apps history) }
+{}
+
+/// There are as many applications after a call as before it: one that ends keeps its place. Does
+/// nothing.
+pub fn applications_stay()
+    ensures { (limits : Limits) (s : State) (app : ℕ) (call : Call) →
+        length ((step limits s app call).1).ended ≡ length s.ended }
 {}
 
 /// The peaks of what is in use: with one entry more, the greater of the peak before and of what is

@@ -26,6 +26,7 @@
 //! - `handles_have_tables`: the table of a live handle is there, each table has a handle, and a
 //!   table is registered if and only if its owner's handle is live. `handles_are_numbered`: no
 //!   number of a handle is given twice, and live handles are in order of number.
+//! - `applications_stay`: no call changes how many applications there are.
 //! - `leaves_add_up`: handles that leave one after another leave the same as at once.
 //!   `ends_leave_nothing`: if all have ended, no handle is live, no table is left and no byte of
 //!   the pool is in use.
@@ -52,9 +53,9 @@ pub use history::{Call, Entry};
 pub use journal::TblJournal;
 pub use journal_store::Allowance;
 pub use laws::{
-    blocks_go_by_tables, ends_leave_nothing, handles_are_numbered, handles_have_tables,
-    held_tables_stay, histories_are_runs, leaves_add_up, numbers_go_by_entries, peaks_are_greatest,
-    worked_examples,
+    applications_stay, blocks_go_by_tables, ends_leave_nothing, handles_are_numbered,
+    handles_have_tables, held_tables_stay, histories_are_runs, leaves_add_up,
+    numbers_go_by_entries, peaks_are_greatest, worked_examples,
 };
 pub use receipts::{HEAD_BYTES, TableReceipt};
 pub use statuses::TblStatus;

@@ -8,6 +8,7 @@ use std::test::Fail;
 /// Two ids get a route each; one of them is looked up, and one that has none.
 fn two_routes(map: &mut IdMap) -> (Option<u32>, Option<u32>)
     requires none { map.old.routes ≡ empty }
+    requires first { map.old.count ≡ 0 }
     requires room { map.old.room ≡ 2 }
     ensures { result ≡ (Some 1, None) }
 {

@@ -28,10 +28,11 @@ fn taken_and_returned<L: Ledger>(
 enum Call {
     Get(u32, u32),
     Put(u32, u64),
+    Block(u32, u64),
 }
 
-/// Makes the calls and compares each answer; a return that is accepted answers 0. Then the
-/// application ends, which makes room for one grant more.
+/// Makes the calls and compares each answer; a return that is accepted answers 0, and a block where
+/// it begins. Then the application ends, which makes room for one grant more.
 fn answers<L: Ledger, R: Abort>(
     rt: &R,
     pools: &mut AppPools,
@@ -55,6 +56,10 @@ fn answers<L: Ledger, R: Abort>(
             }
             Call::Put(pool, grant) => match pools.put(pool, grant, &mut steps) {
                 Ok(()) => Ok(0),
+                Err(refusal) => Err(refusal),
+            },
+            Call::Block(pool, grant) => match pools.block(pool, grant) {
+                Ok(block) => Ok(u64::from(block.offset)),
                 Err(refusal) => Err(refusal),
             },
         };
@@ -90,11 +95,17 @@ fn grants_are_never_numbered_anew(rt: HostRuntime) -> Result<(), Fail> {
     let calls = [
         (Call::Get(1, 64), Ok(1)),
         (Call::Get(1, 64), Ok(2)),
+        (Call::Block(1, 1), Ok(16)),
+        (Call::Block(1, 2), Ok(96)),
         (Call::Put(1, 2), Ok(0)),
+        (Call::Block(1, 2), Err(EsStatus::PoolBlockInvalid)),
         (Call::Get(1, 32), Err(EsStatus::ErrMemBlockSize)),
         (Call::Put(1, 2), Err(EsStatus::PoolBlockInvalid)),
         (Call::Get(1, 65), Err(EsStatus::ErrMemBlockSize)),
         (Call::Get(1, 40), Ok(3)),
+        (Call::Block(1, 3), Ok(96)),
+        (Call::Block(1, 4), Err(EsStatus::BufferNotInPool)),
+        (Call::Block(2, 1), Err(EsStatus::NoPool)),
         (Call::Put(1, 5), Err(EsStatus::BufferNotInPool)),
         (Call::Get(2, 8), Err(EsStatus::NoPool)),
     ];

@@ -58,6 +58,14 @@ fn draws_and_returns<L: Ledger, R: Abort>(rt: &R, pool: &mut Pool, blank: Blank)
     }
 }
 
+/// Where a block begins; None where it was never cut.
+fn offset_in(pool: &Pool, block: BlockNo) -> Option<u32> {
+    match pool.class_of(block) {
+        Some(_) => Some(pool.offset_of(block)),
+        None => None,
+    }
+}
+
 #[test]
 fn a_larger_block_is_never_taken(rt: HostRuntime) -> Result<(), Fail> {
     let sizes = BlockSizes::try_new(&[32, 64]).ok_or("sizes")?;
@@ -78,6 +86,12 @@ fn a_larger_block_is_never_taken(rt: HostRuntime) -> Result<(), Fail> {
     assert_eq!(rt; pool.classes(), 2);
     assert_eq!(rt; pool.class(1).made, 2);
     assert_eq!(rt; pool.class_of(1), Some(1));
+    let offsets = [
+        offset_in(&pool, 0),
+        offset_in(&pool, 1),
+        offset_in(&pool, 2),
+    ];
+    assert_eq!(rt; offsets, [Some(16), Some(96), None]);
     Ok(())
 }
 

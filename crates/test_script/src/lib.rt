@@ -7,6 +7,8 @@
 #[cfg(test)]
 mod app_script_tests;
 #[cfg(test)]
+mod bridge_plan_tests;
+#[cfg(test)]
 mod line_spelling_tests;
 #[cfg(test)]
 mod script_generate_tests;

@@ -2,8 +2,9 @@
 //! no thread could be started.
 //!
 //! The parts of these types are private. So outside of this file no thread is waited for, and
-//! nothing runs in the caller's place, before a thread was asked for of each application; and what
-//! a thread returned can't stand in the place of what the caller ran.
+//! nothing runs in the caller's place, before a thread was asked for of each application (by an
+//! empty list of those left; that it is the run's is by reading); and what a thread returned can't
+//! stand in the place of what the caller ran.
 ghost use Rattle.std.specs.Prelude.{◌≡◌, [], IfOk, IfErr};
 ghost use Rattle.thread_run.specs.Kept.{BeginsAs, Comes};
 

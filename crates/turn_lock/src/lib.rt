@@ -7,15 +7,21 @@
 //! history extends what every seat saw and has no others' entries.
 //!
 //! ```text
-//! /// A value makes an entry at its application's turn, and none at the next.
+//! /// What applications noted, in order: a value of a lock. Its history is `noted` (`Historied`).
+//! struct Visits {
+//!     noted: Vec<(u32, u64)>,                                     // an application, and a number
+//!     awaited: bool,                                              // whether an application sleeps
+//! }
+//!
+//! /// A value gets an entry at its application's turn, and none at the next.
 //! fn two_turns<R: Wait>(alloc: Global, rt: &R, value: Visits, app: AppNo) -> Option<()> {
 //!     let (lock, mut main) = TurnLock::new(alloc, value, 1).ok()?; // the one that takes memory
 //!     let mut seat = lock.split(&mut main, app); // a seat may go to another thread
 //!     let mut turn = lock.enter(rt, &mut seat);                   // waits until no turn is out
-//!     let noted = turn.value_mut().note(app.get(), 7);            // the value makes an entry
+//!     turn.value_mut().noted.push_reserved((app.get(), 7));       // the value gets an entry
 //!     lock.leave(&mut seat, turn);                                // and is the next one's
 //!     let turn = lock.enter(rt, &mut seat);
-//!     let entries = turn.value().len();
+//!     let entries = turn.value().noted.len();
 //!     lock.leave(&mut seat, turn);
 //!     lock.join(&mut main, seat);
 //!     let value = lock.close(main);
@@ -27,13 +33,24 @@
 //! news wakes all sleepers. The value notes whether there are any:
 //!
 //! ```text
-//! let mut turn = lock.enter(rt, &mut seat);
-//! turn.value_mut().awaited = true;
-//! lock.leave_to_sleep(&mut seat, turn);
-//! lock.sleep(rt, &mut seat);                                      // no turn begins before this
+//! /// Application 1 waits for an entry. It is on a thread of its own, and so is application 2.
+//! fn wait_for_news<R: Wait>(rt: &R, lock: &TurnLock<Visits>, one: &mut Seat<usize, u64>) {
+//!     let mut turn = lock.enter(rt, one);
+//!     turn.value_mut().awaited = true;
+//!     lock.leave_to_sleep(one, turn);
+//!     lock.sleep(rt, one);                                        // no turn begins before this
+//! }
 //!
-//! turn.value_mut().awaited = false;                               // in the turn of another seat
-//! lock.leave_and_wake(&mut other, turn);                          // if there were sleepers
+//! /// Application 2 makes the entry, if application 1 waits for it.
+//! fn bring_news<R: Wait>(rt: &R, lock: &TurnLock<Visits>, two: &mut Seat<usize, u64>) {
+//!     let mut turn = lock.enter(rt, two);
+//!     if !turn.value().awaited {
+//!         return lock.leave(two, turn);
+//!     }
+//!     turn.value_mut().noted.push_reserved((2, 7));
+//!     turn.value_mut().awaited = false;
+//!     lock.leave_and_wake(two, turn);
+//! }
 //! ```
 //!
 //! # Implementation
@@ -62,8 +79,8 @@
 //! applications that were split off have entries. `close` gives a history that has of each
 //! application just its seat's entries, in order, and no others (`specs/Rule.antt`). A seat that
 //! left its turn to sleep begins no turn before it slept or said that it stays awake. A turn that
-//! isn't left to sleep wakes the sleepers, after it was given back, if and only if there are some
-//! and the value has news.
+//! isn't left to sleep ends by `leave_and_wake` if and only if there are sleepers and the value has
+//! news; that this wakes them is by reading.
 //!
 //! Tested: two threads get through turns of all lengths around the one at which the other goes to
 //! sleep; a thread that waits for long sleeps; news wakes the sleepers, and they sleep until

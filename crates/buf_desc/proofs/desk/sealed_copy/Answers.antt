@@ -2,7 +2,7 @@ use Rattle.std.proofs.Common.{◌≡◌, ℕ, List, length, take, ap, sym, ◌�
 use Rattle.std.specs.Option.{option_map_or}
 use Rattle.ccsds_msg.specs.Message.{with_count}
 use Rattle.buf_desc.specs.Block.{Unsent as UnsentBlock, Sealed as SealedBlock}
-use Rattle.buf_desc.proofs.Copied.{length-counted}
+use Rattle.buf_desc.proofs.Copies.{length-counted}
 use Rattle.buf_desc.proofs.desk.sealed_copy.Goals as goal
 
 pub returns : goal.returns

@@ -1,4 +1,4 @@
 use Rattle.bus_example.proofs.plain.run.Given as goal
 
-abbrev pub ghosts-open : goal.ghosts-open
-ghosts-open a = record { name = a.blank.name; parts = a.blank.parts }
+abbrev pub ghosts-play : goal.ghosts-play
+ghosts-play a = record { name = a.blank.name; parts = a.blank.parts }

@@ -1,7 +1,7 @@
 use Rattle.std.specs.Option.{option_map_or}
 use Rattle.ccsds_msg.specs.Message.{with_count}
 use Rattle.buf_desc.specs.Slots.{sealed_at}
-use Rattle.buf_desc.proofs.Copied.{length-counted}
+use Rattle.buf_desc.proofs.Copies.{length-counted}
 use Rattle.bus_store.proofs.NewBlocks.{put_added}
 use Rattle.bus_store.proofs.blocks.put_message.Goals as goal
 

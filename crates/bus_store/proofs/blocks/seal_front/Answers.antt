@@ -2,7 +2,7 @@ use Rattle.std.proofs.Common.{length, take, ap, ◌∙◌, arith}
 use Rattle.std.specs.Option.{option_map_or}
 use Rattle.ccsds_msg.specs.Message.{with_count, message_size}
 use Rattle.buf_desc.specs.Block.{Unsent as UnsentBlock}
-use Rattle.buf_desc.proofs.Copied.{length-counted}
+use Rattle.buf_desc.proofs.Copies.{length-counted}
 use Rattle.bus_store.proofs.NewBlocks.{own_as, fronted, fronted_numbers, counted_front}
 use Rattle.bus_store.proofs.blocks.seal_front.Goals as goal
 

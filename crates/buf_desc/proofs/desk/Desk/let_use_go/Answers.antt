@@ -4,7 +4,7 @@ use Rattle.es_pool.specs.Pool.{PoolState, given_back}
 use Rattle.buf_desc.specs.Desk.{Buffers, after_use}
 use Rattle.buf_desc.specs.Slots.{slot_at, is_sealed}
 use Rattle.buf_desc.specs.declared.slot.Slot.TheVariants.{Free}
-use Rattle.buf_desc.proofs.Keeps.{kept_reopened, reopened_out, on_ok, all_whole}
+use Rattle.buf_desc.proofs.Keeps.{kept_reopened, reopened_out, all_whole}
 use Rattle.buf_desc.proofs.Uses.{opened, use_kept, use_ended}
 use Rattle.buf_desc.proofs.desk.Desk.let_use_go.Goals as goal
 
@@ -14,8 +14,8 @@ invariant_of-self g c =
     let sealed = ap (λ (b : Buffers). is_sealed (slot_at b.slots c.args.desc)) c.self.view_is ∙ c.requires.sealed in
     let out = reopened_out s.pool s.slots.items s.rest (vec_capacity s.slots) c.args.desc c.self.invariant sealed in
     let free = opened s.slots.items c.let_use_go.new.slots.items c.reopen.new.slots.items c.args.desc _ sealed c.let_use_go.ensures.after c.reopen.ensures.after in
-    kept_reopened s.pool c.put.new.self s.slots.items c.reopen.new.slots.items s.rest (vec_capacity s.slots) (vec_capacity c.reopen.new.slots) c.args.desc c.self.invariant sealed free (c.reopen.ensures.capacity ∙ c.let_use_go.ensures.capacity)
-    (on_ok c.put.result (c.put.ensures.ok.1 out) c.put.ensures.given_back)
+    kept_reopened s.pool c.take_back.new.self s.slots.items c.reopen.new.slots.items s.rest (vec_capacity s.slots) (vec_capacity c.reopen.new.slots) c.args.desc c.self.invariant sealed free (c.reopen.ensures.capacity ∙ c.let_use_go.ensures.capacity)
+    c.take_back.ensures.given_back
 
 pub returns-then-let_use_go-clause-after : goal.returns-then-let_use_go-clause-after
 returns-then-let_use_go-clause-after g c =
@@ -25,7 +25,7 @@ returns-then-let_use_go-clause-after g c =
     let out = reopened_out s.pool s.slots.items s.rest (vec_capacity s.slots) d c.self.invariant sealed in
     let free = opened s.slots.items c.let_use_go.new.slots.items c.reopen.new.slots.items d _ sealed c.let_use_go.ensures.after c.reopen.ensures.after in
     let whole = all_whole s.pool s.slots.items s.rest (vec_capacity s.slots) c.self.invariant d sealed in
-    let pool = on_ok c.put.result (c.put.ensures.ok.1 out) c.put.ensures.given_back in
+    let pool = c.take_back.ensures.given_back in
     ap (λ (p : PoolState). record { pool = p; slots = c.reopen.new.slots.items }) pool
     ∙ (ap (λ l. record { pool = given_back s.pool d; slots = l }) (free ∙ ap (λ n. set s.slots.items d (Free n)) whole)
     ∙ (use_ended s.pool s.slots.items d sealed (sym c.let_use_go.ensures.last ∙ c.if-let_use_go.true)

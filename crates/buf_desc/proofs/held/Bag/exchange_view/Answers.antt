@@ -10,8 +10,8 @@ use Rattle.buf_desc.proofs.Finds.{found, seen_part, ok_where_found}
 use Rattle.buf_desc.proofs.Keys.{chosen_part}
 use Rattle.buf_desc.proofs.held.Bag.exchange_view.Goals as goal
 
-pub unwrap-place-requires : goal.unwrap-place-requires
-unwrap-place-requires g c =
+pub surely_ok-place-requires : goal.surely_ok-place-requires
+surely_ok-place-requires g c =
     let s = c.self.inside in
     ok_where_found (λ (e : ℕ × g.row.V.Denot). e.0) s.views.items c.args.pipe c.view_place.result c.view_place.ensures.absent
     (part_there (λ (e : ℕ × g.row.V.Denot). e.1) (find (λ (e : ℕ × g.row.V.Denot). e.0 == c.args.pipe) s.views.items)
@@ -21,9 +21,9 @@ pub invariant_of-self : goal.invariant_of-self
 invariant_of-self g c =
     let s = c.self.inside in
     let k = c.self.invariant in
-    let place = c.unwrap-place.result in
+    let place = c.surely_ok-place.result in
     let entry = c.index_mut.result.now in
-    let here = subst (λ (r : Result ℕ ℕ). IfOk r (IsAt (λ (e : ℕ × g.row.V.Denot). e.0) s.views.items c.args.pipe)) c.unwrap-place.ensures c.view_place.ensures.found in (
+    let here = subst (λ (r : Result ℕ ℕ). IfOk r (IsAt (λ (e : ℕ × g.row.V.Denot). e.0) s.views.items c.args.pipe)) c.surely_ok-place.ensures c.view_place.ensures.found in (
       omega (arith, k.0, length-set s.views.items place (entry.0, c.replace.new.dest)),
       k.1,
       k.2,
@@ -35,8 +35,8 @@ invariant_of-self g c =
 pub returns-clause-found : goal.returns-clause-found
 returns-clause-found g c =
     let s = c.self.inside in
-    let place = c.unwrap-place.result in
-    let here = subst (λ (r : Result ℕ ℕ). IfOk r (IsAt (λ (e : ℕ × g.row.V.Denot). e.0) s.views.items c.args.pipe)) c.unwrap-place.ensures c.view_place.ensures.found in
+    let place = c.surely_ok-place.result in
+    let here = subst (λ (r : Result ℕ ℕ). IfOk r (IsAt (λ (e : ℕ × g.row.V.Denot). e.0) s.views.items c.args.pipe)) c.surely_ok-place.ensures c.view_place.ensures.found in
     let f = found (λ (e : ℕ × g.row.V.Denot). e.0) s.views.items c.args.pipe place c.self.invariant.4 here in
     ap Some c.replace.ensures.value
     ∙ (seen_part (λ (e : ℕ × g.row.V.Denot). e.1) (λ (e : ℕ × g.row.V.Denot). e.0 == c.args.pipe) s.views.items place c.index_mut.result.now f c.index_mut.ensures.value
@@ -45,10 +45,10 @@ returns-clause-found g c =
 pub returns-clause-seen : goal.returns-clause-seen
 returns-clause-seen g c =
     let s = c.self.inside in
-    let place = c.unwrap-place.result in
+    let place = c.surely_ok-place.result in
     let entry = c.index_mut.result.now in
     let new : ℕ × g.row.V.Denot = (entry.0, c.replace.new.dest) in
-    let here = subst (λ (r : Result ℕ ℕ). IfOk r (IsAt (λ (e : ℕ × g.row.V.Denot). e.0) s.views.items c.args.pipe)) c.unwrap-place.ensures c.view_place.ensures.found in
+    let here = subst (λ (r : Result ℕ ℕ). IfOk r (IsAt (λ (e : ℕ × g.row.V.Denot). e.0) s.views.items c.args.pipe)) c.surely_ok-place.ensures c.view_place.ensures.found in
     λ other. ap (option_map (λ (e : ℕ × g.row.V.Denot). e.1))
     (find_changed (λ (e : ℕ × g.row.V.Denot). e.0) s.views.items c.self.invariant.4 c.args.pipe place here entry new c.index_mut.ensures.value refl other)
     ∙ (chosen_part (λ (e : ℕ × g.row.V.Denot). e.1) (eqb c.args.pipe other) new (find (λ (e : ℕ × g.row.V.Denot). e.0 == other) s.views.items)
@@ -58,5 +58,5 @@ returns-clause-seen g c =
 pub returns-clause-as_many : goal.returns-clause-as_many
 returns-clause-as_many g c =
     let s = c.self.inside in
-    length-set s.views.items c.unwrap-place.result (c.index_mut.result.now.0, c.replace.new.dest)
+    length-set s.views.items c.surely_ok-place.result (c.index_mut.result.now.0, c.replace.new.dest)
     ∙ ap (λ (bag : Holding g.row.V.Denot). length bag.views) c.self.view_is

@@ -9,10 +9,12 @@ use Rattle.bus_words.specs.Bus.{route, reached, drops}
 use Rattle.bus_tables.specs.Missed.{Missed}
 use Rattle.bus_tables.specs.Rows.{deliver_rows, reached_rows, missed_rows, dropped_rows}
 use Rattle.bus_tables.specs.Tables.{Tables}
+use Rattle.bus_store.specs.Bag.{with_lent}
 use Rattle.bus_store.specs.Store.{Store}
 use Rattle.bus_store.specs.Words.{passing_of}
 use Rattle.bus_store.specs.Inside.{AreLoose, all_dropped}
 use Rattle.bus_store.proofs.BufferSends.{front_long, passed_keeps, passed_reached, passed_loose, passed_drops, passed_at, passed_views, passed_descs, passed_others, passed_bag}
+use Rattle.bus_store.proofs.LentBuffers.{seen_whole}
 use Rattle.bus_store.proofs.ListChanges.{list_of}
 use Rattle.bus_store.proofs.OwnBuffers.{given_number, own_block, in_list, numbered_block, size_block, bytes_are, seals_as}
 use Rattle.bus_store.proofs.store.BusStore.transmit_buffer.Goals as goal
@@ -102,7 +104,7 @@ returns-clause-descs g c =
     c.drop_uses.new.desk c.settle_message.ensures.live (c.drop_uses.ensures.dropped ∙ ap (all_dropped c.settle_message.new.desk) c.dropped_messages.ensures)
 
 pub returns-clause-bag : goal.returns-clause-bag
-returns-clause-bag g c =
+returns-clause-bag g c = λ lent none holds.
     passed_bag c.self.inside c.args.self.now c.args.app c.args.buf c.unwrap-block.result.bytes c.args.inc c.id_of-id.result c.unwrap-block.result.desc c.deliver-reached.result c.next_count-count.result
     c.seal_front-desc.new.desk c.settle_message.new.desk c.next_count-count.new.tables c.deliver-reached.new.self c.deliver-reached.new.misses c.let_go.new.self
     c.self.view_is c.self.invariant c.recall_order.ensures c.requires.bag.known (in_list c.self.inside c.args.self.now c.args.app c.args.buf c.self.view_is c.self.invariant c.requires.has c.args.held.now c.requires.bag c.unwrap-block.result (sym c.unwrap-block.ensures ∙ c.take_buffer.ensures.found)) (numbered_block c.self.inside c.args.self.now c.args.app c.args.buf c.self.view_is c.self.invariant c.requires.has c.args.held.now c.requires.bag c.unwrap-block.result (sym c.unwrap-block.ensures ∙ c.take_buffer.ensures.found)) (size_block c.self.inside c.args.self.now c.args.app c.args.buf c.self.view_is c.self.invariant c.requires.has c.args.held.now c.requires.bag c.unwrap-block.result (sym c.unwrap-block.ensures ∙ c.take_buffer.ensures.found))
@@ -115,7 +117,8 @@ returns-clause-bag g c =
     (c.deliver-reached.ensures.missed ∙ ap (λ d. let v : Missed = record c.self.inside.misses { items = missed_rows (record { sender = c.args.app; number = c.args.buf; desc = d }) (route c.next_count-count.new.tables.subscriptions c.id_of-id.result) c.next_count-count.new.tables.pipes; dropped = dropped_rows (record { sender = c.args.app; number = c.args.buf; desc = d }) (route c.next_count-count.new.tables.subscriptions c.id_of-id.result) c.next_count-count.new.tables.pipes } in v) c.seal_front-desc.ensures.desc)
     (c.settle_message.ensures.after ∙ ap (λ d. after_settle (resealed c.seal_front-desc.new.desk d (record (sealed_at c.seal_front-desc.new.desk.slots d) { uses = c.deliver-reached.result })) d) c.seal_front-desc.ensures.desc)
     c.drop_uses.new.desk c.settle_message.ensures.live (c.drop_uses.ensures.dropped ∙ ap (all_dropped c.settle_message.new.desk) c.dropped_messages.ensures)
-    c.args.held.now c.take_buffer.new.self c.requires.bag c.take_buffer.ensures.seen
+    (with_lent c.args.held.now lent) (with_lent c.take_buffer.new.self lent) holds
+    (seen_whole c.args.held.now c.take_buffer.new.self lent c.args.buf None none c.take_buffer.ensures.seen)
 
 pub returns-clause-other_bags : goal.returns-clause-other_bags
 returns-clause-other_bags g c =

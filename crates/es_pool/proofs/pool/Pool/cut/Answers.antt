@@ -7,6 +7,7 @@ use Rattle.fsw_base.specs.PoolAccounts.{overhead}
 use Rattle.es_pool.specs.declared.blocks.CutBlock.{CutBlock}
 use Rattle.es_pool.proofs.Totals.{block}
 use Rattle.es_pool.proofs.Keeps.{cut, kept_at, cut_sufficed}
+use Rattle.es_pool.proofs.Places.{offsets_push}
 use Rattle.es_pool.proofs.pool.Pool.cut.Goals as goal
 
 pub add_node-block-requires : goal.add_node-block-requires
@@ -85,6 +86,9 @@ invariant_of-self c =
           (ap to c.push_reserved.ensures.items) c.add_node-block.ensures.after c.push_reserved.ensures.capacity done.kept;
       out = ap (λ (n : ℕ). n + 1) c.self.invariant.out ∙ sym (ap out_among c.push_reserved.ensures.items ∙ done.out);
       recent = h;
+      offsets = offsets_push (state_of s) s.offsets.items c.push_reserved-2.new.self.items c.push_reserved.new.self.items k s.rest c.saturating_add-self-inside.result (s.bytes - s.rest + overhead)
+          c.self.invariant.kept.adds_up c.self.invariant.offsets c.push_reserved.ensures.items c.push_reserved-2.ensures.items refl;
+      room = omega (arith, c.push_reserved.ensures.capacity, c.push_reserved-2.ensures.capacity, c.self.invariant.room);
     }
 
 pub overflow_add-self-3 : goal.overflow_add-self-3
@@ -108,3 +112,26 @@ returns-clause-rest_sufficed c =
     subst (λ (v : PoolState). get_or s.sizes (get_or c.push_reserved.new.self.items c.add_node-block.result (block 0 true)).class 0 + overhead ≤ rest_of v) c.self.view_is
     (cut_sufficed (state_of s) c.push_reserved.new.self.items k c.add_node-block.result c.at-size.result s.rest c.push_reserved.ensures.items
     (c.add_node-block.ensures.number ∙ c.self.invariant.kept.nodes_all) c.self.invariant.kept.adds_up c.at-size.ensures done.enough)
+
+pub overflow_sub-offset : goal.overflow_sub-offset
+overflow_sub-offset c = omega (arith, c.self.invariant.kept.adds_up)
+
+pub overflow_add-offset : goal.overflow_add-offset
+overflow_add-offset c =
+    let s = c.self.inside in
+    let k = c.args.class in
+    let h : k < length s.sizes = omega (arith, c.requires.class, ap (λ v. length v.sizes) c.self.view_is) in
+    let none : free_in s.blocks.items k ≡ 0 = ap (λ v. free_in v.blocks k) c.self.view_is ∙ c.requires.none in
+    let fits : fits_class (state_of s) k 1 ≡ true = ap (λ v. fits_class v k 1) c.self.view_is ∙ c.requires.fits in
+    let done = cut (state_of s) s.rest s.in_use s.made.items s.free s.blocks.cap k (get_or s.made.items k 0) c.at-size.result 0 c.self.invariant.kept h none fits c.at-size.ensures refl in
+    omega (arith, done.enough, c.self.invariant.kept.adds_up)
+
+pub push_reserved-requires-2 : goal.push_reserved-requires-2
+push_reserved-requires-2 c =
+    let s = c.self.inside in
+    let k = c.args.class in
+    let h : k < length s.sizes = omega (arith, c.requires.class, ap (λ v. length v.sizes) c.self.view_is) in
+    let none : free_in s.blocks.items k ≡ 0 = ap (λ v. free_in v.blocks k) c.self.view_is ∙ c.requires.none in
+    let fits : fits_class (state_of s) k 1 ≡ true = ap (λ v. fits_class v k 1) c.self.view_is ∙ c.requires.fits in
+    let done = cut (state_of s) s.rest s.in_use s.made.items s.free s.blocks.cap k (get_or s.made.items k 0) c.at-size.result 0 c.self.invariant.kept h none fits c.at-size.ensures refl in
+    omega (arith, done.space, s.blocks.ok, c.self.invariant.offsets.many, c.self.invariant.room, s.offsets.ok)

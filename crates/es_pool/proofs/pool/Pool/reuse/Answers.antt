@@ -5,6 +5,7 @@ use Rattle.es_pool.specs.Inside.{state_of}
 use Rattle.es_pool.specs.declared.blocks.CutBlock.{CutBlock}
 use Rattle.es_pool.proofs.Totals.{block}
 use Rattle.es_pool.proofs.Keeps.{reused_read, kept_at}
+use Rattle.es_pool.proofs.Places.{offsets_set}
 use Rattle.es_pool.proofs.pool.Pool.reuse.Goals as goal
 
 pub overflow_add-self : goal.overflow_add-self
@@ -27,6 +28,8 @@ invariant_of-self g c =
       kept = kept_at (to c.args.class) (to b.class) s.rest (s.in_use + c.at.result) s.made.items c.pop.new.self c.pop.new.self s.blocks.cap s.blocks.cap (ap to same) refl refl done.kept;
       out = ap (λ (n : ℕ). n + 1) c.self.invariant.out ∙ (sym done.out ∙ sym (ap (λ i. out_among (blocks i)) same));
       recent = h;
+      offsets = offsets_set (state_of s) s.offsets.items c.in-Some.block b.class c.saturating_add-self-inside.result true (sym (ap (λ (x : CutBlock). x.class) (get_or_read s.blocks.items c.in-Some.block b done.within c.index_mut.ensures.value (block 0 true)))) c.self.invariant.offsets;
+      room = c.self.invariant.room;
     }
 
 pub returns-clause-drawn : goal.returns-clause-drawn

@@ -21,14 +21,19 @@ insert-requires-clause-fresh c =
     let none = number_there s.numbers s.ids.items (vec_capacity s.ids) s.counted.items s.dests s.msgids s.limit c.self.invariant.0 s.starts c.args.self.now c.self.view_is c.args.id ∙ c.requires.fresh in
     none
 
+pub insert-requires-clause-next : goal.insert-requires-clause-next
+insert-requires-clause-next c =
+    let s = c.self.inside in
+    omega (arith, c.len-route.ensures, s.ids.ok, c.self.invariant.0.all)
+
 pub invariant_of-self : goal.invariant_of-self
 invariant_of-self c =
     let s = c.self.inside in
     let len : c.len-route.result ≡ length s.ids.items = omega (arith, c.len-route.ensures, s.ids.ok) in
     let none = number_there s.numbers s.ids.items (vec_capacity s.ids) s.counted.items s.dests s.msgids s.limit c.self.invariant.0 s.starts c.args.self.now c.self.view_is c.args.id ∙ c.requires.fresh in (
       subst (λ ids. AreNumbered c.insert.new.self ids (vec_capacity c.push_reserved.new.self) s.counted.items s.dests s.msgids s.limit) (sym c.push_reserved.ensures.items)
-          (numbered_push s.numbers s.ids.items (vec_capacity s.ids) s.counted.items s.dests s.msgids s.limit c.self.invariant.0 c.args.id c.insert.new.self.room (vec_capacity c.push_reserved.new.self) c.insert.new.self.routes none (omega (arith, c.if-route-self.false, len))
-          (c.insert.ensures.routes ∙ ap (map.insert s.numbers.routes c.args.id) len) c.insert.ensures.room c.push_reserved.ensures.capacity),
+          (numbered_push s.numbers s.ids.items (vec_capacity s.ids) s.counted.items s.dests s.msgids s.limit c.self.invariant.0 c.args.id c.insert.new.self.count c.insert.new.self.room (vec_capacity c.push_reserved.new.self) c.insert.new.self.routes none (omega (arith, c.if-route-self.false, len))
+          (c.insert.ensures.routes ∙ ap (map.insert s.numbers.routes c.args.id) len) c.insert.ensures.count c.insert.ensures.room c.push_reserved.ensures.capacity),
       subst (λ ids. AreStarted s.starts ids c.push_reserved-2.new.self.items (vec_capacity c.push_reserved-2.new.self) s.msgids) (sym c.push_reserved.ensures.items)
           (subst (λ l. AreStarted s.starts (s.ids.items ++ c.args.id ∷ []) l (vec_capacity c.push_reserved-2.new.self) s.msgids) (sym c.push_reserved-2.ensures.items)
           (started_push s.starts s.ids.items s.firsts.items (vec_capacity s.firsts) s.msgids c.args.id c.start_of.result (vec_capacity c.push_reserved-2.new.self) c.self.invariant.1 c.start_of.ensures.start (omega (arith, c.start_of.ensures.valid)) c.push_reserved-2.ensures.capacity)),

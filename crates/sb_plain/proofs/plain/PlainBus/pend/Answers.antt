@@ -1,55 +1,8 @@
-use Rattle.std.proofs.Common.{None, not, ap, refl, sym, ◌∙◌}
-use Rattle.housekeeping.specs.declared.names.CounterName.TheVariants as counters
-use Rattle.bus_words.specs.declared.history.Call.TheVariants.{Pend}
-use Rattle.bus_words.specs.Bus.{owns}
-use Rattle.bus_words.specs.Machine.{by_bus, pended_answer, unowned_cause}
-use Rattle.bus_store.specs.Store.{Store}
-use Rattle.sb_plain.specs.Answers.{waited}
-use Rattle.sb_plain.specs.Core.{Plain}
-use Rattle.sb_plain.specs.Inside.{means}
-use Rattle.sb_plain.proofs.Actives.{is_active, known_here, active_pends, active_first}
-use Rattle.sb_plain.proofs.CallLaws.{acts_looked, seen_keeps, refused_acts}
-use Rattle.sb_plain.proofs.Bags.{others_kept}
-use Rattle.sb_plain.proofs.Refusals.{at_fields, not_unowned}
-use Rattle.sb_plain.proofs.Looks.{pend_keeps, pend_made, pend_refused, pend_counts}
+use Rattle.std.proofs.Common.{[]}
 use Rattle.sb_plain.proofs.plain.PlainBus.pend.Goals as goal
 
-pub returns-in-Some-clause-does : goal.returns-in-Some-clause-does
-returns-in-Some-clause-does g c =
-    refused_acts c.args.self.now c.refuse.new.self c.args.app (Pend c.args.pipe) c.in-Some.status counters.Recv c.refuse.ensures.ticked c.refuse.ensures.covered
-    (ap by_bus (sym c.unowned_cause.ensures ∙ c.in-Some.is)) refl refl
-    (pend_refused c.args.pipe (not (owns c.args.self.now.whole.bus.pipes c.args.app c.args.pipe)) c.in-Some.status (sym c.unowned_cause.ensures ∙ c.in-Some.is))
+pub pend_lending-requires : goal.pend_lending-requires
+pend_lending-requires g c = record { may = c.requires.may; views = c.requires.bag.views }
 
-pub invariant_of-self : goal.invariant_of-self
-invariant_of-self g c =
-    let a = c.self.inside in
-    let next = c.receive.new.self in
-    let active = is_active a c.args.self.now c.args.app (Pend c.args.pipe) c.self.view_is c.requires.may (active_pends c.args.pipe) in
-    let known = known_here a c.args.self.now c.args.app (Pend c.args.pipe) c.self.view_is c.requires.may in
-    let why = at_fields a c.args.self.now c.self.view_is (λ limits s. unowned_cause s c.args.app c.args.pipe) None (sym c.unowned_cause.ensures ∙ c.in_default.is) in
-    let answers = c.pended-answer.ensures.answer ∙ ap (λ (o : Plain). pended_answer o.whole.bus c.args.app c.args.pipe) (sym c.self.view_is) in
-    let order = pend_keeps a next c.set_waiting.new.activities c.args.app c.args.pipe c.pended-answer.result c.receive.ensures.after c.set_waiting.ensures answers
-    c.self.invariant.order c.recall_order.ensures (not_unowned (means a).bus c.args.app c.args.pipe why) active (active_first a.activities.items c.args.app active) known in
-    seen_keeps (record a { store = next; activities = c.set_waiting.new.activities; records = c.see.new.records }) a.records order c.see.ensures.seen c.see.ensures.held
-
-pub returns-clause-does : goal.returns-clause-does
-returns-clause-does g c =
-    let a = c.self.inside in
-    let next = c.receive.new.self in
-    let active = is_active a c.args.self.now c.args.app (Pend c.args.pipe) c.self.view_is c.requires.may (active_pends c.args.pipe) in
-    let known = known_here a c.args.self.now c.args.app (Pend c.args.pipe) c.self.view_is c.requires.may in
-    let why = at_fields a c.args.self.now c.self.view_is (λ limits s. unowned_cause s c.args.app c.args.pipe) None (sym c.unowned_cause.ensures ∙ c.in_default.is) in
-    let answers = c.pended-answer.ensures.answer ∙ ap (λ (o : Plain). pended_answer o.whole.bus c.args.app c.args.pipe) (sym c.self.view_is) in
-    let order = pend_keeps a next c.set_waiting.new.activities c.args.app c.args.pipe c.pended-answer.result c.receive.ensures.after c.set_waiting.ensures answers
-    c.self.invariant.order c.recall_order.ensures (not_unowned (means a).bus c.args.app c.args.pipe why) active (active_first a.activities.items c.args.app active) known in
-    acts_looked a next c.set_waiting.new.activities a.pools c.args.self.now c.args.app (Pend c.args.pipe) (waited c.pended-answer.result) c.self.view_is
-    (pend_made a next c.set_waiting.new.activities c.args.app c.args.pipe c.pended-answer.result c.receive.ensures.after c.set_waiting.ensures answers why)
-    refl refl (pend_counts c.args.pipe c.pended-answer.result) c.see.new.records c.see.ensures.seen order.pool c.see.ensures.held
-
-pub returns-clause-other_bags : goal.returns-clause-other_bags
-returns-clause-other_bags g c =
-    let a = c.self.inside in
-    let is = c.receive.ensures.after in
-    others_kept a c.args.self.now c.self.view_is c.self.invariant.order (record a { store = c.receive.new.self; activities = c.set_waiting.new.activities; records = c.see.new.records }) refl
-    (ap (λ (o : Store). o.room) is) c.args.app
-    (record { unsent = ap (λ (o : Store). o.unsent) is; descs = ap (λ (o : Store). o.descs) is; sizes = ap (λ (o : Store). o.account.sizes) is }) c.receive.ensures.other_bags
+pub returns-clause-bag : goal.returns-clause-bag
+returns-clause-bag g c = c.pend_lending.ensures.bag [] c.requires.bag

@@ -1,0 +1,104 @@
+"""What a call costs, beside docs/bench/plain_bus.c: a round's instructions (callgrind's, a long run less a short one, divided
+by the difference) and nanoseconds (the least of several runs), in one run of all.
+
+    costs.py [BUILD [WORD ..]]     BUILD is make's folder (build), after `make bench`
+    costs.py --check BUILD         instructions alone; the status is 1 where a bound below isn't kept
+
+Columns: plain_bus with its mutex; the library; the library with a mutex round each call; the layer in cFE's names, which has one.
+`port1` and `port2` are `send1` by one application and by each of two on threads. Behind a figure stands its ratio to plain_bus's.
+"""
+import re
+import subprocess
+import sys
+import tempfile
+import time
+from pathlib import Path
+
+TOP = Path(__file__).resolve().parent.parent
+PLAIN = TOP.parent / 'docs' / 'bench' / 'plain_bus.c'
+# A word, its rounds when counted, and when timed.
+ROUNDS = {'send1': (2000, 1_000_000), 'fan16': (400, 100_000), 'big': (200, 100_000), 'fanbig': (100, 50_000),
+          'zc': (2000, 1_000_000), 'table': (200, 100_000), 'port1': (2000, 1_000_000), 'port2': (2000, 500_000)}
+# The most instructions of a round of the library.
+BOUNDS = {'send1': 880}
+TIMES = 5
+# What the layer's time is to be at most, beside plain_bus's.
+GOALS = {'send1': 1.2, 'fan16': 1.2, 'zc': 1.2, 'port1': 1.2, 'port2': 1.2, 'big': 1.02, 'fanbig': 1.02}
+# Words that calls_cost hasn't: it has one application.
+ON_THREADS = {'port1': ('port1', '1'), 'port2': ('port1', '2')}
+
+
+def programs(build, folder):
+    """The programs to compare, by their column: what is run for a word."""
+    plain = Path(folder) / 'plain_bus'
+    subprocess.run(['gcc', '-O2', '-pthread', '-o', plain, PLAIN], check=True)
+    return {'plain_bus': [plain], 'library': [build / 'calls_cost'], 'locked': [build / 'calls_cost', 'lock'],
+            'layer': [build / 'layer_cost']}
+
+
+def compared_on(compared, word):
+    """The programs that have this word."""
+    return {column: program for column, program in compared.items() if word not in ON_THREADS or column in ('plain_bus', 'layer')}
+
+
+def command(program, word, rounds):
+    if word in ON_THREADS:
+        word, apps = ON_THREADS[word]
+        return [program[0], word, str(rounds), apps]
+    return [program[0], word, str(rounds), *program[1:]]
+
+
+def instructions(words):
+    tool = ['valgrind', '--tool=callgrind', '--callgrind-out-file=/dev/null']
+    run = subprocess.run(tool + words, capture_output=True, text=True, check=False)
+    collected = re.search(r'Collected : (\d+)', run.stderr)
+    if run.returncode or not collected:
+        sys.exit(f'{words}: {run.stdout}{run.stderr}')
+    return int(collected[1])
+
+
+def counted(program, word):
+    few = ROUNDS[word][0]
+    short, long = (instructions(command(program, word, rounds)) for rounds in (few, 3 * few))
+    return (long - short) / (2 * few)
+
+
+def timed(program, word):
+    rounds = ROUNDS[word][1]
+    began = time.monotonic()
+    subprocess.run(command(program, word, rounds), stdout=subprocess.DEVNULL, check=True)
+    return (time.monotonic() - began) * 1e9 / rounds
+
+
+def show(word, figures, unit):
+    plain = figures['plain_bus']
+    told = ', '.join(f'{column} {figure:,.0f} ({figure / plain:.2f})' for column, figure in figures.items())
+    print(f'{word} {unit}: {told}', flush=True)
+
+
+def main():
+    words = sys.argv[1:]
+    is_check = '--check' in words
+    words = [word for word in words if word != '--check']
+    build = Path(words[0]) if words else TOP / 'build'
+    failed = False
+    with tempfile.TemporaryDirectory() as folder:
+        programs_of_all = programs(build, folder)
+        for word in words[1:] or (BOUNDS if is_check else ROUNDS):
+            compared = compared_on(programs_of_all, word)
+            figures = {column: counted(program, word) for column, program in compared.items()}
+            show(word, figures, 'instructions')
+            if figures.get('library', 0) > BOUNDS.get(word, float('inf')):
+                print(f'{word}: more than {BOUNDS[word]}')
+                failed = True
+            if not is_check:
+                runs = [{column: timed(program, word) for column, program in compared.items()} for _ in range(TIMES)]
+                times = {column: min(run[column] for run in runs) for column in compared}
+                show(word, times, 'ns')
+                ratio = times['layer'] / times['plain_bus']
+                if ratio > GOALS.get(word, float('inf')):
+                    print(f"{word}: the layer's time is {ratio:.2f} of plain_bus's, over its goal of {GOALS[word]}")
+    return failed and is_check
+
+
+sys.exit(main())

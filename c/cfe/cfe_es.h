@@ -1,0 +1,127 @@
+/* cfe_es.h: Executive Services: an application's loop and end, its tasks, memory pools. */
+#ifndef CFE_ES_H
+#define CFE_ES_H
+
+#include "cfe_error.h"
+#include "cfe_mission_cfg.h"
+#include "osapi.h"
+
+#ifdef __cplusplus
+extern "C" {
+#endif
+
+typedef uint32 CFE_ResourceId_t;
+typedef CFE_ResourceId_t CFE_ES_AppId_t;
+typedef CFE_ResourceId_t CFE_ES_TaskId_t;
+typedef CFE_ResourceId_t CFE_ES_MemHandle_t;
+
+#define CFE_RESOURCEID_UNDEFINED        ((CFE_ResourceId_t)0)
+#define CFE_ES_APPID_UNDEFINED          ((CFE_ES_AppId_t)0)
+#define CFE_ES_TASKID_UNDEFINED         ((CFE_ES_TaskId_t)0)
+#define CFE_ES_MEMHANDLE_UNDEFINED      ((CFE_ES_MemHandle_t)0)
+#define CFE_RESOURCEID_TEST_DEFINED(id) ((id) != 0)
+#define CFE_RESOURCEID_TEST_EQUAL(a, b) ((a) == (b))
+#define CFE_RESOURCEID_TO_ULONG(id)     ((unsigned long)(id))
+
+enum CFE_ES_RunStatus {
+    CFE_ES_RunStatus_UNDEFINED = 0,
+    CFE_ES_RunStatus_APP_RUN = 1,
+    CFE_ES_RunStatus_APP_EXIT = 2,
+    CFE_ES_RunStatus_APP_ERROR = 3,
+    CFE_ES_RunStatus_SYS_EXCEPTION = 4,
+    CFE_ES_RunStatus_SYS_RESTART = 5,
+    CFE_ES_RunStatus_SYS_RELOAD = 6,
+    CFE_ES_RunStatus_SYS_DELETE = 7
+};
+
+/* Whether the application goes on: not if it set another status, or if fsw_stop was called. */
+bool CFE_ES_RunLoop(uint32 *RunStatus);
+
+/* Ends the calling task, and with it the application. The application's other tasks end at their
+ * next call. */
+void CFE_ES_ExitApp(uint32 ExitStatus);
+
+/* Waits, for so many milliseconds at most, until each application runs its loop, waits here, or has
+ * ended. */
+void CFE_ES_WaitForStartupSync(uint32 TimeOutMilliseconds);
+
+CFE_Status_t CFE_ES_GetAppID(CFE_ES_AppId_t *AppIdPtr);
+CFE_Status_t CFE_ES_GetAppIDByName(CFE_ES_AppId_t *AppIdPtr, const char *AppName);
+CFE_Status_t CFE_ES_GetAppName(char *AppName, CFE_ES_AppId_t AppId, size_t BufferLength);
+
+/* Writes a line to the standard error output. */
+CFE_Status_t CFE_ES_WriteToSysLog(const char *SpecStringPtr, ...) OS_PRINTF(1, 2);
+
+/* Nothing is kept of performance. */
+#define CFE_ES_PerfLogEntry(id) CFE_ES_PerfLogAdd(id, 0)
+#define CFE_ES_PerfLogExit(id)  CFE_ES_PerfLogAdd(id, 1)
+static inline void CFE_ES_PerfLogAdd(uint32 Marker, uint32 EntryExit)
+{
+    (void)Marker;
+    (void)EntryExit;
+}
+
+/* Child tasks belong to the application that made them. Stack, priority and flags have no effect.
+ */
+typedef void (*CFE_ES_TaskEntryFuncPtr_t)(void);
+typedef CFE_ES_TaskEntryFuncPtr_t CFE_ES_ChildTaskMainFuncPtr_t;
+typedef void *CFE_ES_StackPointer_t;
+typedef uint8 CFE_ES_TaskPriority_Atom_t;
+#define CFE_ES_TASK_STACK_ALLOCATE ((CFE_ES_StackPointer_t)0)
+
+CFE_Status_t CFE_ES_CreateChildTask(CFE_ES_TaskId_t *TaskIdPtr, const char *TaskName,
+                                    CFE_ES_ChildTaskMainFuncPtr_t FunctionPtr,
+                                    CFE_ES_StackPointer_t StackPtr, size_t StackSize,
+                                    CFE_ES_TaskPriority_Atom_t Priority, uint32 Flags);
+CFE_Status_t CFE_ES_GetTaskID(CFE_ES_TaskId_t *TaskIdPtr);
+
+/* The task ends at its next call. */
+CFE_Status_t CFE_ES_DeleteChildTask(CFE_ES_TaskId_t TaskId);
+void CFE_ES_ExitChildTask(void);
+
+/* The CRC that cFE uses by default, CRC-16 of the ARC kind. */
+#define CFE_MISSION_ES_CRC_16      2
+#define CFE_MISSION_ES_DEFAULT_CRC CFE_MISSION_ES_CRC_16
+uint32 CFE_ES_CalculateCRC(const void *DataPtr, size_t DataLength, uint32 InputCRC, uint32 TypeCRC);
+
+/* Memory pools over the caller's memory, which begins at a multiple of 8. */
+typedef void *CFE_ES_MemPoolBuf_t;
+typedef size_t CFE_ES_MemOffset_t;
+#define CFE_ES_MEMPOOLBUF_C(x) ((CFE_ES_MemPoolBuf_t)(x))
+
+/* One pool, as a static variable of an application: its memory, aligned. */
+#define CFE_ES_STATIC_POOL_TYPE(size) \
+    union {                           \
+        uint8 Data[size];             \
+        long long Align;              \
+    }
+
+typedef struct CFE_ES_BlockStats {
+    CFE_ES_MemOffset_t BlockSize;
+    uint32 NumCreated;
+    uint32 NumFree;
+} CFE_ES_BlockStats_t;
+
+typedef struct CFE_ES_MemPoolStats {
+    CFE_ES_MemOffset_t PoolSize;
+    uint32 NumBlocksRequested;
+    uint32 CheckErrCtr;
+    CFE_ES_MemOffset_t NumFreeBytes;
+    CFE_ES_BlockStats_t BlockStats[CFE_MISSION_ES_POOL_MAX_BUCKETS];
+} CFE_ES_MemPoolStats_t;
+
+CFE_Status_t CFE_ES_PoolCreate(CFE_ES_MemHandle_t *PoolID, void *MemPtr, size_t Size);
+CFE_Status_t CFE_ES_PoolCreateNoSem(CFE_ES_MemHandle_t *PoolID, void *MemPtr, size_t Size);
+
+/* These three answer the size that was asked for, if they aren't refused. */
+int32 CFE_ES_GetPoolBuf(CFE_ES_MemPoolBuf_t *BufPtr, CFE_ES_MemHandle_t PoolID, size_t Size);
+int32 CFE_ES_GetPoolBufInfo(CFE_ES_MemHandle_t PoolID, CFE_ES_MemPoolBuf_t BufPtr);
+int32 CFE_ES_PutPoolBuf(CFE_ES_MemHandle_t PoolID, CFE_ES_MemPoolBuf_t BufPtr);
+
+CFE_Status_t CFE_ES_GetMemPoolStats(CFE_ES_MemPoolStats_t *BufPtr, CFE_ES_MemHandle_t PoolID);
+
+#ifdef __cplusplus
+}
+#endif
+
+#endif

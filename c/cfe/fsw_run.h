@@ -1,0 +1,60 @@
+/* fsw_run.h: starts applications written in cFE's names. This is what a program's main calls. */
+#ifndef FSW_RUN_H
+#define FSW_RUN_H
+
+#include "cfe_error.h"
+#include "fsw.h"
+
+#ifdef __cplusplus
+extern "C" {
+#endif
+
+/* An application: its name, 1 to 19 bytes, and its main function. */
+struct fsw_app {
+    const char *name;
+    void (*entry)(void);
+};
+
+/* What becomes of events beside the log, and the numbers that they carry. All zero at first. */
+struct fsw_config {
+    bool sends_events;  /* each goes out as a packet, CFE_EVS_LONG_EVENT_MSG_MID */
+    bool prints_events; /* each is printed as a line, as on cFE's port 1 */
+    uint32_t spacecraft;
+    uint32_t processor;
+};
+
+/* Says this before fsw_run; it stays. */
+void fsw_configure(const struct fsw_config *config);
+
+/*
+ * Opens a bus of these limits (null: FSW_USUAL_LIMITS), runs each application on a thread of its
+ * own, and returns when all have ended; the bus is closed then. The memory of messages and tables
+ * stays taken (fsw_close), so a program runs once, or a few times.
+ *
+ * Answers 0 if nothing went wrong; otherwise how many applications ended by
+ * CFE_ES_RunStatus_APP_ERROR and its neighbours, before a fsw_stop; or -1 if nothing was started: a
+ * limit is out of its range, there is no memory or no thread, there are 0 or more than limits.apps
+ * applications, a name isn't 1 to 19 bytes or is there twice, or the program runs already.
+ */
+int fsw_run(const struct fsw_limits *limits, const struct fsw_app *apps, size_t count);
+
+/*
+ * Asks all applications to end: CFE_ES_RunLoop answers false, and a CFE_SB_ReceiveBuffer that waits
+ * is refused. Any thread may call it, while fsw_run runs; no signal handler may.
+ */
+void fsw_stop(void);
+
+/*
+ * Stages the table file for the table that it names, as cFE's command CFE_TBL_LOAD_CC does, to be
+ * validated and updated by the table's owner (CFE_TBL_Manage). Called by an application.
+ *
+ * Refused as CFE_TBL_Load of a file is, and with CFE_TBL_ERR_INVALID_NAME if no such table is
+ * registered.
+ */
+CFE_Status_t fsw_stage_table(const char *file);
+
+#ifdef __cplusplus
+}
+#endif
+
+#endif

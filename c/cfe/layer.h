@@ -1,0 +1,169 @@
+/*
+ * layer.h: what the files of the layer share. One mutex stands round all calls on the core and all
+ * that is here. The layer keeps what the core hasn't: names, threads, who sleeps on which pipe,
+ * which pointer is which buffer, block or table.
+ */
+#ifndef LAYER_H
+#define LAYER_H
+
+#include "cfe.h"
+#include "fsw_run.h"
+
+#include <pthread.h>
+#include <time.h>
+
+enum {
+    MOST_APPS = 16,
+    MOST_TASKS = 64,
+    MOST_PIPES = 256,
+    MOST_POOLS = 8,
+    MOST_TABLES = 256,
+    MOST_HANDLES = 1024,
+    MOST_FILTERS = CFE_PLATFORM_EVS_MAX_EVENT_FILTERS,
+    BLOCK_SIZES = CFE_MISSION_ES_POOL_MAX_BUCKETS
+};
+
+struct app {
+    const char *name;
+    uint32_t number; /* the core's */
+    uint32_t tasks;  /* threads of it that were not joined yet */
+    bool is_up;      /* it has reached its loop */
+    bool is_ending;  /* its tasks end at their next call */
+    bool has_ended;
+    bool has_failed; /* it ended by an error */
+    uint32_t filters;
+    uint16_t filter[MOST_FILTERS]; /* the ids that it registered filters for */
+};
+
+enum task_state { TASK_NONE, TASK_RUNS, TASK_DONE };
+
+struct task {
+    pthread_t thread;
+    enum task_state state;
+    bool is_main;
+    bool is_ending;
+    struct app *app;
+    void (*entry)(void);
+};
+
+struct pipe {
+    uint32_t number; /* the core's; 0 while there is none */
+    uint32_t sleepers;
+    pthread_cond_t arrived;
+    struct pipe *next_asleep; /* the next pipe that has sleepers */
+};
+
+struct pool {
+    uint8_t *at;
+    uint32_t size;
+    uint32_t sizes[BLOCK_SIZES];
+    uint32_t free[BLOCK_SIZES]; /* the first free block of each size, as its offset; 0: none */
+};
+
+/* What fsw_stage_table staged waits for this. */
+enum pending { NOTHING_PENDING, VALIDATION_PENDING, UPDATE_PENDING };
+
+struct table {
+    char name[CFE_TBL_MAX_FULL_NAME_LEN]; /* the full name */
+    uint32_t users;                       /* handles; 0 while there is no table */
+    uint32_t owner;                       /* the owner's handle in the core; 0 if it gave it back */
+    uint32_t loader;                      /* the handle by which it is loaded just now, or 0 */
+    const struct task *loading;           /* the task that does so */
+    enum pending pending;
+    CFE_TBL_CallbackFuncPtr_t validate;
+    uint8_t *image;      /* room for a table file, and for the copy that is validated */
+    uint32_t staged_crc; /* of what was validated last */
+    CFE_TBL_Info_t info;
+};
+
+struct handle {
+    uint32_t number; /* the core's; 0 while there is none */
+    struct app *app;
+    struct table *table;
+};
+
+struct layer {
+    pthread_mutex_t mutex;
+    pthread_cond_t changed; /* a task or an application changed its state, or fsw_stop was called */
+    bool is_running;
+    bool is_stopping;
+    struct timespec began;
+    struct fsw_core core;
+    struct fsw_limits limits;
+    struct fsw_config config;
+    uint32_t apps;
+    struct app app[MOST_APPS];
+    struct task task[MOST_TASKS];
+    struct pipe pipe[MOST_PIPES + MOST_TASKS]; /* a deleted one may have sleepers for a moment */
+    struct pipe *asleep;                       /* the first pipe that has sleepers */
+    struct fsw_buffer *buffer;                 /* limits.buffers for each application */
+    struct pool pool[MOST_POOLS];
+    struct table table[MOST_TABLES];
+    struct handle handle[MOST_HANDLES];
+};
+
+extern struct layer fsw_layer;
+
+/* The task of this thread; null if it is of no application. */
+extern _Thread_local struct task *fsw_self;
+
+/* Ends the calling task, which has the mutex. */
+_Noreturn void fsw_end_task(void);
+
+/* Does so if it was asked to end. */
+static inline void fsw_end_if_asked(void)
+{
+    if (fsw_self->is_ending || fsw_self->app->is_ending)
+        fsw_end_task();
+}
+
+/*
+ * Begins a call: the mutex is taken, and the caller's application is the answer. If the thread is
+ * of no application, nothing is taken, and the answer is null. If the task was asked to end, it
+ * ends here.
+ */
+static inline struct app *fsw_enter(void)
+{
+    if (!fsw_self)
+        return NULL;
+    pthread_mutex_lock(&fsw_layer.mutex);
+    fsw_end_if_asked();
+    return fsw_self->app;
+}
+
+static inline void fsw_leave(void)
+{
+    pthread_mutex_unlock(&fsw_layer.mutex);
+}
+
+/* Goes on with a call that let the mutex go; the task doesn't end within it. */
+static inline void fsw_resume(void)
+{
+    pthread_mutex_lock(&fsw_layer.mutex);
+}
+
+/* Has every task that sleeps look at what changed. */
+void fsw_wake_all(void);
+
+/* The time so many milliseconds from now, for waits. */
+struct timespec fsw_after(uint32_t milliseconds);
+
+/* A status for an application: a status of the library's own, which cFE hasn't, is `otherwise`. */
+static inline CFE_Status_t fsw_status(uint32_t status, CFE_Status_t otherwise)
+{
+    return status >> 16 == 0xc000 ? otherwise : (CFE_Status_t)status;
+}
+
+/* Wakes those who sleep on a pipe that has a message, after a send. */
+void fsw_wake(const struct fsw_sent *sent);
+
+/* Lets go what an application still has, before its end in the core; and its pipes, behind it. */
+void fsw_end_buffers(struct app *app);
+void fsw_end_blocks(struct app *app);
+void fsw_end_tables(struct app *app);
+void fsw_end_pipes(void);
+
+/* Drops what a task loads, if it ends within a validation function. */
+void fsw_end_loads(const struct task *task);
+
+#endif

@@ -1,0 +1,134 @@
+/* osapi.c: delays, printing and mutexes in the names of cFE's OS layer. */
+#include "layer.h"
+
+#include <stdarg.h>
+#include <stdio.h>
+#include <string.h>
+
+int32 OS_TaskDelay(uint32 millisecond)
+{
+    struct timespec until = fsw_after(millisecond);
+    if (!fsw_enter()) {
+        clock_nanosleep(CLOCK_MONOTONIC, TIMER_ABSTIME, &until, NULL);
+        return OS_SUCCESS;
+    }
+    while (pthread_cond_timedwait(&fsw_layer.changed, &fsw_layer.mutex, &until) == 0)
+        fsw_end_if_asked();
+    fsw_leave();
+    return OS_SUCCESS;
+}
+
+void OS_printf(const char *string, ...)
+{
+    va_list arguments;
+    va_start(arguments, string);
+    vprintf(string, arguments);
+    va_end(arguments);
+    fflush(stdout);
+}
+
+/* ---- Mutexes ---- */
+
+struct named_mutex {
+    bool is_made;
+    char name[OS_MAX_API_NAME];
+    pthread_mutex_t mutex;
+};
+
+static struct named_mutex mutexes[OS_MAX_MUTEXES];
+
+/* The place of a name, from 1; 0: none has it. The caller has the layer's mutex. */
+static osal_id_t mutex_named(const char *name)
+{
+    for (osal_id_t id = 1; id <= OS_MAX_MUTEXES; id++)
+        if (mutexes[id - 1].is_made && strcmp(mutexes[id - 1].name, name) == 0)
+            return id;
+    return OS_OBJECT_ID_UNDEFINED;
+}
+
+static int32 make_mutex(const char *name, osal_id_t *id)
+{
+    osal_id_t free = 1;
+    if (mutex_named(name))
+        return OS_ERR_NAME_TAKEN;
+    while (free <= OS_MAX_MUTEXES && mutexes[free - 1].is_made)
+        free++;
+    if (free > OS_MAX_MUTEXES)
+        return OS_ERR_NO_FREE_IDS;
+    struct named_mutex *made = &mutexes[free - 1];
+    pthread_mutexattr_t kind;
+    pthread_mutexattr_init(&kind);
+    pthread_mutexattr_settype(&kind, PTHREAD_MUTEX_RECURSIVE);
+    int failed = pthread_mutex_init(&made->mutex, &kind);
+    pthread_mutexattr_destroy(&kind);
+    if (failed)
+        return OS_SEM_FAILURE;
+    made->is_made = true;
+    strcpy(made->name, name);
+    *id = free;
+    return OS_SUCCESS;
+}
+
+int32 OS_MutSemCreate(osal_id_t *sem_id, const char *sem_name, uint32 options)
+{
+    (void)options;
+    if (!sem_id || !sem_name)
+        return OS_INVALID_POINTER;
+    if (strlen(sem_name) >= OS_MAX_API_NAME)
+        return OS_ERR_NAME_TOO_LONG;
+    pthread_mutex_lock(&fsw_layer.mutex);
+    int32 status = make_mutex(sem_name, sem_id);
+    pthread_mutex_unlock(&fsw_layer.mutex);
+    return status;
+}
+
+/* A mutex by its number; null: none. It lies still until it is deleted. */
+static pthread_mutex_t *mutex_at(osal_id_t id)
+{
+    pthread_mutex_t *found = NULL;
+    pthread_mutex_lock(&fsw_layer.mutex);
+    if (1 <= id && id <= OS_MAX_MUTEXES && mutexes[id - 1].is_made)
+        found = &mutexes[id - 1].mutex;
+    pthread_mutex_unlock(&fsw_layer.mutex);
+    return found;
+}
+
+int32 OS_MutSemTake(osal_id_t sem_id)
+{
+    pthread_mutex_t *mutex = mutex_at(sem_id);
+    if (!mutex)
+        return OS_ERR_INVALID_ID;
+    return pthread_mutex_lock(mutex) == 0 ? OS_SUCCESS : OS_SEM_FAILURE;
+}
+
+int32 OS_MutSemGive(osal_id_t sem_id)
+{
+    pthread_mutex_t *mutex = mutex_at(sem_id);
+    if (!mutex)
+        return OS_ERR_INVALID_ID;
+    return pthread_mutex_unlock(mutex) == 0 ? OS_SUCCESS : OS_SEM_FAILURE;
+}
+
+int32 OS_MutSemDelete(osal_id_t sem_id)
+{
+    int32 status = OS_ERR_INVALID_ID;
+    pthread_mutex_lock(&fsw_layer.mutex);
+    if (1 <= sem_id && sem_id <= OS_MAX_MUTEXES && mutexes[sem_id - 1].is_made)
+        status = pthread_mutex_destroy(&mutexes[sem_id - 1].mutex) ? OS_SEM_FAILURE : OS_SUCCESS;
+    if (status == OS_SUCCESS)
+        mutexes[sem_id - 1].is_made = false;
+    pthread_mutex_unlock(&fsw_layer.mutex);
+    return status;
+}
+
+int32 OS_MutSemGetIdByName(osal_id_t *sem_id, const char *sem_name)
+{
+    if (!sem_id || !sem_name)
+        return OS_INVALID_POINTER;
+    pthread_mutex_lock(&fsw_layer.mutex);
+    osal_id_t id = mutex_named(sem_name);
+    pthread_mutex_unlock(&fsw_layer.mutex);
+    if (id)
+        *sem_id = id;
+    return id ? OS_SUCCESS : OS_ERR_NAME_NOT_FOUND;
+}

@@ -1,0 +1,53 @@
+# The layer in cFE's names: libfsw_cfe.a over the library, its tests, what of it is installed and analyzed.
+
+CFE_SOURCES = $(wildcard cfe/*.c)
+CFE_OBJECTS = $(patsubst cfe/%.c,$(BUILD)/%.o,$(CFE_SOURCES))
+CFE_HEADERS = $(wildcard cfe/*.h)
+CFE = $(BUILD)/libfsw_cfe.a $(CORE)
+
+INCLUDES += -Icfe
+HEADERS += $(CFE_HEADERS)
+LIBRARIES += $(BUILD)/libfsw_cfe.a
+INSTALLED_HEADERS += $(filter-out cfe/layer.h,$(CFE_HEADERS))
+INSTALLED_PACKAGES += cfe/fsw_cfe
+ANALYZED += $(CFE_SOURCES) bench/layer_cost.c
+BENCHES += $(BUILD)/layer_cost
+TESTS += $(addprefix $(BUILD)/,layer_test layer_test.address layer_test.thread threads_test threads_test.thread soak_test)
+
+$(BUILD)/%.o: cfe/%.c $(HEADERS) | $(BUILD)
+	$(COMPILE) -pthread -c $< -o $@
+
+$(BUILD)/%.o: cfe/test/%.c $(HEADERS) | $(BUILD)
+	$(COMPILE) -pthread -c $< -o $@
+
+$(BUILD)/libfsw_cfe.a: $(CFE_OBJECTS)
+	rm -f $@
+	ar rcs $@ $^
+
+$(BUILD)/%_test: $(BUILD)/%_test.o $(CFE)
+	$(CC) $(CFLAGS) -pthread -o $@ $^
+
+$(BUILD)/layer_cost: bench/layer_cost.c $(CFE) $(HEADERS)
+	$(COMPILE) -pthread -o $@ $< $(CFE)
+
+# ---- With a sanitizer: X.address, X.thread ----
+
+ADDRESS_CFE = $(CFE_OBJECTS:.o=.address.o) $(if $(LIBRARY),$(CORE),$(BUILD)/stand_in.address.o)
+THREAD_CFE = $(CFE_OBJECTS:.o=.thread.o) $(if $(LIBRARY),$(CORE),$(BUILD)/stand_in.thread.o)
+
+SOURCE_FOLDERS = cfe cfe/test test examples examples/test
+
+define sanitized_objects
+$(BUILD)/%.address.o: $(1)/%.c $$(HEADERS) | $(BUILD)
+	$$(CC) $$(SANITIZED) $$(ADDRESS) $$(INCLUDES) -pthread -c $$< -o $$@
+
+$(BUILD)/%.thread.o: $(1)/%.c $$(HEADERS) | $(BUILD)
+	$$(CC) $$(SANITIZED) $$(THREAD) $$(INCLUDES) -pthread -c $$< -o $$@
+endef
+$(foreach folder,$(SOURCE_FOLDERS),$(eval $(call sanitized_objects,$(folder))))
+
+$(BUILD)/%_test.address: $(BUILD)/%_test.address.o $(ADDRESS_CFE)
+	$(CC) $(ADDRESS) -pthread -o $@ $^
+
+$(BUILD)/%_test.thread: $(BUILD)/%_test.thread.o $(THREAD_CFE)
+	$(CC) $(THREAD) -pthread -o $@ $^

@@ -1,0 +1,343 @@
+/* sb.c: the Software Bus in cFE's names. */
+#include "layer.h"
+
+#include <errno.h>
+#include <string.h>
+
+enum { CORE_NAME = 19 };
+
+/* ---- Pipes ---- */
+
+static struct pipe *pipe_numbered(uint32_t number)
+{
+    struct pipe *pipe = fsw_layer.pipe;
+    while (pipe->number != number)
+        pipe++;
+    return pipe;
+}
+
+/* A place for a new pipe: one that nobody sleeps on. */
+static struct pipe *free_pipe(void)
+{
+    struct pipe *pipe = fsw_layer.pipe;
+    while (pipe->number || pipe->sleepers)
+        pipe++;
+    return pipe;
+}
+
+CFE_Status_t CFE_SB_CreatePipe(CFE_SB_PipeId_t *PipeIdPtr, uint16 Depth, const char *PipeName)
+{
+    if (!PipeIdPtr)
+        return CFE_SB_BAD_ARGUMENT;
+    *PipeIdPtr = CFE_SB_INVALID_PIPE;
+    if (!PipeName)
+        return CFE_SB_BAD_ARGUMENT;
+    struct app *app = fsw_enter();
+    if (!app)
+        return CFE_SB_BAD_ARGUMENT;
+    uint32_t number = 0;
+    uint32_t status =
+        fsw_create_pipe(&fsw_layer.core, app->number, Depth, PipeName, strlen(PipeName), &number);
+    if (status == FSW_SUCCESS)
+        free_pipe()->number = *PipeIdPtr = number;
+    fsw_leave();
+    return fsw_status(status, CFE_SB_BAD_ARGUMENT);
+}
+
+CFE_Status_t CFE_SB_DeletePipe(CFE_SB_PipeId_t PipeId)
+{
+    struct app *app = fsw_enter();
+    if (!app)
+        return CFE_SB_BAD_ARGUMENT;
+    uint32_t status = fsw_delete_pipe(&fsw_layer.core, app->number, PipeId);
+    if (status == FSW_SUCCESS) {
+        struct pipe *pipe = pipe_numbered(PipeId);
+        pipe->number = 0;
+        pthread_cond_broadcast(&pipe->arrived);
+    }
+    fsw_leave();
+    return fsw_status(status, CFE_SB_BAD_ARGUMENT);
+}
+
+CFE_Status_t CFE_SB_SetPipeOpts(CFE_SB_PipeId_t PipeId, uint8 Opts)
+{
+    struct app *app = fsw_enter();
+    if (!app)
+        return CFE_SB_BAD_ARGUMENT;
+    uint32_t status = fsw_set_options(&fsw_layer.core, app->number, PipeId, Opts);
+    fsw_leave();
+    return fsw_status(status, CFE_SB_BAD_ARGUMENT);
+}
+
+CFE_Status_t CFE_SB_GetPipeOpts(CFE_SB_PipeId_t PipeId, uint8 *OptsPtr)
+{
+    if (!OptsPtr || !fsw_enter())
+        return CFE_SB_BAD_ARGUMENT;
+    uint32_t status = fsw_get_options(&fsw_layer.core, PipeId, OptsPtr);
+    fsw_leave();
+    return fsw_status(status, CFE_SB_BAD_ARGUMENT);
+}
+
+CFE_Status_t CFE_SB_GetPipeName(char *PipeNameBuf, size_t PipeNameSize, CFE_SB_PipeId_t PipeId)
+{
+    char name[CORE_NAME + 1];
+    uint32_t length = 0;
+    if (!PipeNameBuf || PipeNameSize == 0 || !fsw_enter())
+        return CFE_SB_BAD_ARGUMENT;
+    uint32_t status = fsw_pipe_name(&fsw_layer.core, PipeId, name, CORE_NAME, &length);
+    fsw_leave();
+    /* As cFE, the name is cut to its room, and the room is empty after a refusal. */
+    if (length >= PipeNameSize)
+        length = (uint32_t)PipeNameSize - 1;
+    memcpy(PipeNameBuf, name, length);
+    PipeNameBuf[length] = '\0';
+    return fsw_status(status, CFE_SB_BAD_ARGUMENT);
+}
+
+CFE_Status_t CFE_SB_GetPipeIdByName(CFE_SB_PipeId_t *PipeIdPtr, const char *PipeName)
+{
+    if (!PipeIdPtr || !PipeName || !fsw_enter())
+        return CFE_SB_BAD_ARGUMENT;
+    *PipeIdPtr = CFE_SB_INVALID_PIPE;
+    uint32_t status = fsw_find_pipe(&fsw_layer.core, PipeName, strlen(PipeName), PipeIdPtr);
+    fsw_leave();
+    return fsw_status(status, CFE_SB_BAD_ARGUMENT);
+}
+
+void fsw_end_pipes(void)
+{
+    uint32_t waiting;
+    for (uint32_t i = 0; i < MOST_PIPES + MOST_TASKS; i++) {
+        struct pipe *pipe = &fsw_layer.pipe[i];
+        if (pipe->number && fsw_waiting(&fsw_layer.core, pipe->number, &waiting) != FSW_SUCCESS)
+            pipe->number = 0;
+    }
+}
+
+/* ---- Subscriptions ---- */
+
+static CFE_Status_t subscribe(CFE_SB_MsgId_t MsgId, CFE_SB_PipeId_t PipeId, uint16 limit,
+                              uint32_t scope)
+{
+    struct app *app = fsw_enter();
+    if (!app)
+        return CFE_SB_BAD_ARGUMENT;
+    /* An id of over 16 bits is as bad as 0. */
+    uint16_t id = MsgId > UINT16_MAX ? 0 : (uint16_t)MsgId;
+    uint32_t status = fsw_subscribe(&fsw_layer.core, app->number, id, PipeId, limit, scope);
+    fsw_leave();
+    return fsw_status(status, CFE_SB_BAD_ARGUMENT);
+}
+
+CFE_Status_t CFE_SB_Subscribe(CFE_SB_MsgId_t MsgId, CFE_SB_PipeId_t PipeId)
+{
+    return subscribe(MsgId, PipeId, CFE_PLATFORM_SB_DEFAULT_MSG_LIMIT, FSW_GLOBAL);
+}
+
+CFE_Status_t CFE_SB_SubscribeEx(CFE_SB_MsgId_t MsgId, CFE_SB_PipeId_t PipeId, CFE_SB_Qos_t Quality,
+                                uint16 MsgLim)
+{
+    (void)Quality;
+    return subscribe(MsgId, PipeId, MsgLim, FSW_GLOBAL);
+}
+
+CFE_Status_t CFE_SB_SubscribeLocal(CFE_SB_MsgId_t MsgId, CFE_SB_PipeId_t PipeId, uint16 MsgLim)
+{
+    return subscribe(MsgId, PipeId, MsgLim, FSW_LOCAL);
+}
+
+CFE_Status_t CFE_SB_Unsubscribe(CFE_SB_MsgId_t MsgId, CFE_SB_PipeId_t PipeId)
+{
+    struct app *app = fsw_enter();
+    if (!app)
+        return CFE_SB_BAD_ARGUMENT;
+    uint16_t id = MsgId > UINT16_MAX ? 0 : (uint16_t)MsgId;
+    uint32_t status = fsw_unsubscribe(&fsw_layer.core, app->number, id, PipeId);
+    fsw_leave();
+    return fsw_status(status, CFE_SB_BAD_ARGUMENT);
+}
+
+CFE_Status_t CFE_SB_UnsubscribeLocal(CFE_SB_MsgId_t MsgId, CFE_SB_PipeId_t PipeId)
+{
+    return CFE_SB_Unsubscribe(MsgId, PipeId);
+}
+
+/* ---- Sends ---- */
+
+void fsw_wake(const struct fsw_sent *sent)
+{
+    if (sent->reached == 0)
+        return;
+    for (struct pipe *pipe = fsw_layer.asleep; pipe; pipe = pipe->next_asleep) {
+        uint32_t waiting = 0;
+        fsw_waiting(&fsw_layer.core, pipe->number, &waiting);
+        if (waiting > 0)
+            pthread_cond_signal(&pipe->arrived);
+    }
+}
+
+/* The length that a message's header says. */
+static size_t length_of(const CFE_MSG_Message_t *message)
+{
+    return ((size_t)message->Byte[4] << 8 | message->Byte[5]) + 7;
+}
+
+/* cFE counts telemetry alone; the core would count commands too. */
+static bool is_counted(const CFE_MSG_Message_t *message, bool is_asked)
+{
+    return is_asked && !(message->Byte[0] & 0x10);
+}
+
+CFE_Status_t CFE_SB_TransmitMsg(const CFE_MSG_Message_t *MsgPtr, bool IncrementSequenceCount)
+{
+    struct fsw_sent sent;
+    if (!MsgPtr)
+        return CFE_SB_BAD_ARGUMENT;
+    struct app *app = fsw_enter();
+    if (!app)
+        return CFE_SB_BAD_ARGUMENT;
+    uint32_t status = fsw_transmit(&fsw_layer.core, app->number, MsgPtr, length_of(MsgPtr),
+                                   is_counted(MsgPtr, IncrementSequenceCount), &sent);
+    if (status == FSW_SUCCESS)
+        fsw_wake(&sent);
+    fsw_leave();
+    return fsw_status(status, CFE_SB_BAD_ARGUMENT);
+}
+
+/* ---- Receives ---- */
+
+static void fall_asleep(struct pipe *pipe)
+{
+    if (pipe->sleepers++ > 0)
+        return;
+    pipe->next_asleep = fsw_layer.asleep;
+    fsw_layer.asleep = pipe;
+}
+
+static void wake_up(struct pipe *pipe)
+{
+    if (--pipe->sleepers > 0)
+        return;
+    struct pipe **at = &fsw_layer.asleep;
+    while (*at != pipe)
+        at = &(*at)->next_asleep;
+    *at = pipe->next_asleep;
+}
+
+/* Whether a wait goes on: not if the task or all applications were asked to end. */
+static bool is_patient(void)
+{
+    return !fsw_layer.is_stopping && !fsw_self->is_ending && !fsw_self->app->is_ending;
+}
+
+/* Waits on a live pipe of the caller's. A pipe that is deleted meanwhile can't be read. */
+static uint32_t wait_for_message(struct app *app, uint32_t number, int32 TimeOut,
+                                 struct fsw_message *message)
+{
+    struct pipe *pipe = pipe_numbered(number);
+    bool is_forever = TimeOut == CFE_SB_PEND_FOREVER;
+    struct timespec until = fsw_after(is_forever ? 0 : (uint32_t)TimeOut);
+    uint32_t status = FSW_SB_NO_MESSAGE;
+    int woken = 0;
+    fall_asleep(pipe);
+    while (status == FSW_SB_NO_MESSAGE && woken != ETIMEDOUT && is_patient()) {
+        woken = is_forever ? pthread_cond_wait(&pipe->arrived, &fsw_layer.mutex)
+                           : pthread_cond_timedwait(&pipe->arrived, &fsw_layer.mutex, &until);
+        status = fsw_receive(&fsw_layer.core, app->number, number, message);
+    }
+    wake_up(pipe);
+    fsw_end_if_asked();
+    if (status == FSW_SB_NO_MESSAGE && !is_forever)
+        return FSW_SB_TIME_OUT;
+    return status == FSW_SUCCESS ? status : (uint32_t)CFE_SB_PIPE_RD_ERR;
+}
+
+CFE_Status_t CFE_SB_ReceiveBuffer(CFE_SB_Buffer_t **BufPtr, CFE_SB_PipeId_t PipeId, int32 TimeOut)
+{
+    struct fsw_message message = {NULL, 0, 0};
+    if (!BufPtr)
+        return CFE_SB_BAD_ARGUMENT;
+    *BufPtr = NULL;
+    if (TimeOut < CFE_SB_PEND_FOREVER)
+        return CFE_SB_BAD_ARGUMENT;
+    struct app *app = fsw_enter();
+    if (!app)
+        return CFE_SB_BAD_ARGUMENT;
+    uint32_t status = fsw_receive(&fsw_layer.core, app->number, PipeId, &message);
+    if (status == FSW_SB_NO_MESSAGE && TimeOut != CFE_SB_POLL)
+        status = wait_for_message(app, PipeId, TimeOut, &message);
+    fsw_leave();
+    /* cFE's type lets an application write there; it is not to. */
+    if (status == FSW_SUCCESS)
+        *BufPtr = (CFE_SB_Buffer_t *)(uintptr_t)message.at;
+    return fsw_status(status, CFE_SB_BAD_ARGUMENT);
+}
+
+/* ---- Buffers ---- */
+
+/* The application's buffer whose first byte this is; with null, its first empty place; or null. */
+static struct fsw_buffer *buffer_at(const struct app *app, const void *at)
+{
+    struct fsw_buffer *buffer = fsw_layer.buffer + (app->number - 1) * fsw_layer.limits.buffers;
+    for (uint32_t i = 0; i < fsw_layer.limits.buffers; i++)
+        if (buffer[i].at == at)
+            return &buffer[i];
+    return NULL;
+}
+
+CFE_SB_Buffer_t *CFE_SB_AllocateMessageBuffer(size_t MsgSize)
+{
+    struct app *app = fsw_enter();
+    if (!app)
+        return NULL;
+    /* If no place is left, none of the core's is. */
+    struct fsw_buffer *buffer = buffer_at(app, NULL);
+    uint32_t size = MsgSize > UINT32_MAX ? UINT32_MAX : (uint32_t)MsgSize;
+    void *at = NULL;
+    if (buffer && fsw_allocate_buffer(&fsw_layer.core, app->number, size, buffer) == FSW_SUCCESS)
+        at = buffer->at;
+    fsw_leave();
+    return at;
+}
+
+CFE_Status_t CFE_SB_TransmitBuffer(CFE_SB_Buffer_t *BufPtr, bool IncrementSequenceCount)
+{
+    struct fsw_buffer none = {NULL, 0, 0, false};
+    struct fsw_sent sent;
+    if (!BufPtr)
+        return CFE_SB_BAD_ARGUMENT;
+    struct app *app = fsw_enter();
+    if (!app)
+        return CFE_SB_BAD_ARGUMENT;
+    /* The core counts a refusal, also of what is no buffer. */
+    struct fsw_buffer *buffer = buffer_at(app, BufPtr);
+    bool counts = buffer && is_counted(&BufPtr->Msg, IncrementSequenceCount);
+    uint32_t status =
+        fsw_transmit_buffer(&fsw_layer.core, app->number, buffer ? buffer : &none, counts, &sent);
+    if (status == FSW_SUCCESS)
+        fsw_wake(&sent);
+    fsw_leave();
+    return fsw_status(status, CFE_SB_BAD_ARGUMENT);
+}
+
+CFE_Status_t CFE_SB_ReleaseMessageBuffer(CFE_SB_Buffer_t *BufPtr)
+{
+    struct fsw_buffer none = {NULL, 0, 0, false};
+    if (!BufPtr)
+        return CFE_SB_BAD_ARGUMENT;
+    struct app *app = fsw_enter();
+    if (!app)
+        return CFE_SB_BAD_ARGUMENT;
+    struct fsw_buffer *buffer = buffer_at(app, BufPtr);
+    uint32_t status = fsw_release_buffer(&fsw_layer.core, app->number, buffer ? buffer : &none);
+    fsw_leave();
+    return fsw_status(status, CFE_SB_BAD_ARGUMENT);
+}
+
+void fsw_end_buffers(struct app *app)
+{
+    struct fsw_buffer *buffer = fsw_layer.buffer + (app->number - 1) * fsw_layer.limits.buffers;
+    for (uint32_t i = 0; i < fsw_layer.limits.buffers; i++)
+        if (buffer[i].is_out)
+            fsw_release_buffer(&fsw_layer.core, app->number, &buffer[i]);
+}

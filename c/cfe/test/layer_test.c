@@ -1,0 +1,963 @@
+/*
+ * layer_test.c: every call of the layer, with its refusals, by applications of one run each. Each
+ * test is one fsw_run; its first application makes the calls.
+ *
+ *     layer_test FOLDER      where table files are written
+ */
+#include "cfe_msgids.h"
+#include "check.h"
+#include "layer.h"
+
+#include <stdatomic.h>
+#include <string.h>
+#include <unistd.h>
+
+enum { TLM_ID = 0x0801, OTHER_ID = 0x0802, CMD_ID = 0x1801 };
+
+static const char *folder = ".";
+
+typedef struct {
+    CFE_MSG_TelemetryHeader_t header;
+    uint32 value;
+} tlm_t;
+
+typedef struct {
+    CFE_MSG_CommandHeader_t header;
+    uint32 value;
+} cmd_t;
+
+static tlm_t tlm_of(CFE_SB_MsgId_t id, uint32 value)
+{
+    tlm_t tlm;
+    CHECK_STATUS(CFE_MSG_Init(CFE_MSG_PTR(tlm.header), id, sizeof tlm), CFE_SUCCESS);
+    tlm.value = value;
+    return tlm;
+}
+
+static CFE_Status_t send(CFE_SB_MsgId_t id, uint32 value)
+{
+    tlm_t tlm = tlm_of(id, value);
+    return CFE_SB_TransmitMsg(CFE_MSG_PTR(tlm.header), true);
+}
+
+static uint32 value_in(const CFE_SB_Buffer_t *buffer)
+{
+    tlm_t tlm;
+    memcpy(&tlm, buffer, sizeof tlm);
+    return tlm.value;
+}
+
+static CFE_MSG_SequenceCount_t count_in(const CFE_SB_Buffer_t *buffer)
+{
+    CFE_MSG_SequenceCount_t count = 0;
+    CHECK_STATUS(CFE_MSG_GetSequenceCount(&buffer->Msg, &count), CFE_SUCCESS);
+    return count;
+}
+
+static CFE_SB_PipeId_t pipe_for(const char *name, CFE_SB_MsgId_t id)
+{
+    CFE_SB_PipeId_t pipe;
+    CHECK_STATUS(CFE_SB_CreatePipe(&pipe, 8, name), CFE_SUCCESS);
+    CHECK_STATUS(CFE_SB_SubscribeEx(id, pipe, CFE_SB_DEFAULT_QOS, 8), CFE_SUCCESS);
+    return pipe;
+}
+
+/* ---- Messages ---- */
+
+static void check_fields(void)
+{
+    CFE_MSG_Size_t size;
+    CFE_SB_MsgId_t id;
+    CFE_MSG_Type_t type;
+    CFE_MSG_ApId_t apid;
+    CFE_MSG_HeaderVersion_t version;
+    CFE_MSG_SegmentationFlag_t flag;
+    CFE_MSG_SequenceCount_t count;
+    bool is;
+    tlm_t tlm = tlm_of(TLM_ID, 1);
+    CFE_MSG_Message_t *msg = CFE_MSG_PTR(tlm.header);
+    CHECK_STATUS(CFE_MSG_GetSize(msg, &size), CFE_SUCCESS);
+    CHECK(size == sizeof tlm);
+    CHECK_STATUS(CFE_MSG_GetMsgId(msg, &id), CFE_SUCCESS);
+    CHECK(CFE_SB_MsgId_Equal(id, CFE_SB_ValueToMsgId(TLM_ID)) && CFE_SB_MsgIdToValue(id) == TLM_ID);
+    CHECK_STATUS(CFE_MSG_GetType(msg, &type), CFE_SUCCESS);
+    CHECK(type == CFE_MSG_Type_Tlm);
+    CHECK_STATUS(CFE_MSG_GetApId(msg, &apid), CFE_SUCCESS);
+    CHECK(apid == 1);
+    CHECK_STATUS(CFE_MSG_GetHeaderVersion(msg, &version), CFE_SUCCESS);
+    CHECK(version == 0);
+    CHECK_STATUS(CFE_MSG_GetHasSecondaryHeader(msg, &is), CFE_SUCCESS);
+    CHECK(is);
+    CHECK_STATUS(CFE_MSG_GetSegmentationFlag(msg, &flag), CFE_SUCCESS);
+    CHECK(flag == CFE_MSG_SegFlag_Unsegmented);
+    CHECK_STATUS(CFE_MSG_SetSegmentationFlag(msg, CFE_MSG_SegFlag_First), CFE_SUCCESS);
+    CHECK_STATUS(CFE_MSG_GetSegmentationFlag(msg, &flag), CFE_SUCCESS);
+    CHECK(flag == CFE_MSG_SegFlag_First);
+    CHECK_STATUS(CFE_MSG_SetSegmentationFlag(msg, CFE_MSG_SegFlag_Invalid), CFE_MSG_BAD_ARGUMENT);
+    CHECK_STATUS(CFE_MSG_SetSequenceCount(msg, 16383), CFE_SUCCESS);
+    CHECK_STATUS(CFE_MSG_SetSequenceCount(msg, 16384), CFE_MSG_BAD_ARGUMENT);
+    CHECK_STATUS(CFE_MSG_GetSequenceCount(msg, &count), CFE_SUCCESS);
+    CHECK(count == 16383 && CFE_MSG_GetNextSequenceCount(count) == 0);
+    CHECK_STATUS(CFE_MSG_GetSegmentationFlag(msg, &flag), CFE_SUCCESS);
+    CHECK(flag == CFE_MSG_SegFlag_First);
+    CHECK_STATUS(CFE_MSG_SetSize(msg, 7), CFE_SUCCESS);
+    CHECK_STATUS(CFE_MSG_SetSize(msg, 6), CFE_MSG_BAD_ARGUMENT);
+    CHECK_STATUS(CFE_MSG_SetSize(msg, 65542), CFE_SUCCESS);
+    CHECK_STATUS(CFE_MSG_SetSize(msg, 65543), CFE_MSG_BAD_ARGUMENT);
+    CHECK_STATUS(CFE_MSG_GetSize(msg, &size), CFE_SUCCESS);
+    CHECK(size == 65542);
+    CHECK_STATUS(CFE_MSG_SetMsgId(msg, 0x1fff), CFE_SUCCESS);
+    CHECK_STATUS(CFE_MSG_SetMsgId(msg, 0x2000), CFE_MSG_BAD_ARGUMENT);
+    CHECK_STATUS(CFE_MSG_SetMsgId(msg, 0), CFE_MSG_BAD_ARGUMENT);
+    CHECK_STATUS(CFE_MSG_SetApId(msg, 0x123), CFE_SUCCESS);
+    CHECK_STATUS(CFE_MSG_SetApId(msg, 0x800), CFE_MSG_BAD_ARGUMENT);
+    CHECK_STATUS(CFE_MSG_GetMsgId(msg, &id), CFE_SUCCESS);
+    CHECK(id == 0x1923);
+    CHECK_STATUS(CFE_MSG_SetType(msg, CFE_MSG_Type_Tlm), CFE_SUCCESS);
+    CHECK_STATUS(CFE_MSG_SetType(msg, CFE_MSG_Type_Invalid), CFE_MSG_BAD_ARGUMENT);
+    CHECK_STATUS(CFE_MSG_SetHasSecondaryHeader(msg, false), CFE_SUCCESS);
+    CHECK_STATUS(CFE_MSG_GetMsgId(msg, &id), CFE_SUCCESS);
+    CHECK(id == 0x0123);
+    CHECK_STATUS(CFE_MSG_GetTypeFromMsgId(CMD_ID, &type), CFE_SUCCESS);
+    CHECK(type == CFE_MSG_Type_Cmd);
+    CHECK_STATUS(CFE_MSG_GetTypeFromMsgId(CFE_SB_INVALID_MSG_ID, &type), CFE_MSG_BAD_ARGUMENT);
+    CHECK(!CFE_SB_IsValidMsgId(CFE_SB_INVALID_MSG_ID) && !CFE_SB_IsValidMsgId(0));
+    CHECK_STATUS(CFE_MSG_Init(msg, TLM_ID, 6), CFE_MSG_BAD_ARGUMENT);
+    CHECK_STATUS(CFE_MSG_Init(NULL, TLM_ID, 16), CFE_MSG_BAD_ARGUMENT);
+    CHECK_STATUS(CFE_MSG_Init(msg, 0x2000, 16), CFE_MSG_BAD_ARGUMENT);
+}
+
+static void check_secondary_headers(void)
+{
+    tlm_t tlm = tlm_of(TLM_ID, 0);
+    cmd_t cmd;
+    CFE_MSG_FcnCode_t code;
+    CFE_TIME_SysTime_t time = {0x01020304, 0x05060000}, read_back;
+    bool is_valid;
+    CFE_MSG_Message_t *command = CFE_MSG_PTR(cmd.header), *telemetry = CFE_MSG_PTR(tlm.header);
+    CHECK_STATUS(CFE_MSG_Init(command, CMD_ID, sizeof cmd), CFE_SUCCESS);
+    CHECK_STATUS(CFE_MSG_SetFcnCode(command, 127), CFE_SUCCESS);
+    CHECK_STATUS(CFE_MSG_SetFcnCode(command, 128), CFE_MSG_BAD_ARGUMENT);
+    CHECK_STATUS(CFE_MSG_SetFcnCode(command, 256), CFE_MSG_BAD_ARGUMENT);
+    CHECK_STATUS(CFE_MSG_GetFcnCode(command, &code), CFE_SUCCESS);
+    CHECK(code == 127);
+    CHECK_STATUS(CFE_MSG_GetFcnCode(telemetry, &code), CFE_MSG_WRONG_MSG_TYPE);
+    CHECK(code == 0);
+    CHECK_STATUS(CFE_MSG_SetFcnCode(telemetry, 1), CFE_MSG_WRONG_MSG_TYPE);
+    CHECK_STATUS(CFE_MSG_ValidateChecksum(command, &is_valid), CFE_SUCCESS);
+    CHECK(!is_valid);
+    CHECK_STATUS(CFE_MSG_GenerateChecksum(command), CFE_SUCCESS);
+    CHECK_STATUS(CFE_MSG_ValidateChecksum(command, &is_valid), CFE_SUCCESS);
+    CHECK(is_valid);
+    CHECK_STATUS(CFE_MSG_GenerateChecksum(telemetry), CFE_MSG_WRONG_MSG_TYPE);
+    CHECK_STATUS(CFE_MSG_SetMsgTime(telemetry, time), CFE_SUCCESS);
+    CHECK_STATUS(CFE_MSG_GetMsgTime(telemetry, &read_back), CFE_SUCCESS);
+    CHECK(read_back.Seconds == time.Seconds && read_back.Subseconds == time.Subseconds);
+    CHECK(memcmp(tlm.header.Sec.Time, "\1\2\3\4\5\6", 6) == 0);
+    CHECK_STATUS(CFE_MSG_SetMsgTime(command, time), CFE_MSG_WRONG_MSG_TYPE);
+    CHECK(CFE_SB_GetUserData(telemetry) == (void *)&tlm.value);
+    CHECK(CFE_SB_GetUserDataLength(telemetry) == sizeof tlm.value);
+    CHECK(CFE_SB_GetUserData(command) == (void *)&cmd.value);
+    CHECK(CFE_SB_GetUserDataLength(command) == sizeof cmd.value);
+    CHECK(sizeof(CFE_MSG_TelemetryHeader_t) == 16 && sizeof(CFE_MSG_CommandHeader_t) == 8);
+    CHECK(sizeof(CFE_EVS_LongEventTlm_t) == 172);
+}
+
+static void test_messages(void)
+{
+    check_fields();
+    check_secondary_headers();
+}
+
+/* ---- Software Bus ---- */
+
+static void check_pipes(void)
+{
+    CFE_SB_PipeId_t pipe, other;
+    char name[OS_MAX_API_NAME];
+    uint8 options;
+    CHECK_STATUS(CFE_SB_CreatePipe(NULL, 4, "A"), CFE_SB_BAD_ARGUMENT);
+    CHECK_STATUS(CFE_SB_CreatePipe(&pipe, 4, NULL), CFE_SB_BAD_ARGUMENT);
+    CHECK_STATUS(CFE_SB_CreatePipe(&pipe, 0, "A"), CFE_SB_BAD_ARGUMENT);
+    CHECK_STATUS(CFE_SB_CreatePipe(&pipe, 4, ""), CFE_SB_BAD_ARGUMENT);
+    CHECK_STATUS(CFE_SB_CreatePipe(&pipe, 4, "TWENTY_BYTES_OF_NAME"), CFE_SB_BAD_ARGUMENT);
+    CHECK(pipe == CFE_SB_INVALID_PIPE);
+    CHECK_STATUS(CFE_SB_CreatePipe(&pipe, 4, "A"), CFE_SUCCESS);
+    CHECK_STATUS(CFE_SB_CreatePipe(&other, 4, "A"), CFE_SB_PIPE_CR_ERR);
+    CHECK_STATUS(CFE_SB_CreatePipe(&other, 4, "NINETEEN_BYTES_NAME"), CFE_SUCCESS);
+    CHECK_STATUS(CFE_SB_GetPipeName(name, sizeof name, other), CFE_SUCCESS);
+    CHECK(strcmp(name, "NINETEEN_BYTES_NAME") == 0);
+    CHECK_STATUS(CFE_SB_GetPipeName(name, 4, other), CFE_SUCCESS);
+    CHECK(strcmp(name, "NIN") == 0);
+    CHECK_STATUS(CFE_SB_GetPipeName(name, sizeof name, 99), CFE_SB_BAD_ARGUMENT);
+    CHECK(name[0] == '\0');
+    CHECK_STATUS(CFE_SB_GetPipeName(name, 0, other), CFE_SB_BAD_ARGUMENT);
+    CFE_SB_PipeId_t found;
+    CHECK_STATUS(CFE_SB_GetPipeIdByName(&found, "A"), CFE_SUCCESS);
+    CHECK(found == pipe);
+    CHECK_STATUS(CFE_SB_GetPipeIdByName(&found, "B"), CFE_SB_BAD_ARGUMENT);
+    CHECK_STATUS(CFE_SB_GetPipeIdByName(NULL, "A"), CFE_SB_BAD_ARGUMENT);
+    CHECK_STATUS(CFE_SB_SetPipeOpts(pipe, CFE_SB_PIPEOPTS_IGNOREMINE), CFE_SUCCESS);
+    CHECK_STATUS(CFE_SB_GetPipeOpts(pipe, &options), CFE_SUCCESS);
+    CHECK(options == CFE_SB_PIPEOPTS_IGNOREMINE);
+    CHECK_STATUS(CFE_SB_SetPipeOpts(pipe, 2), CFE_SB_BAD_ARGUMENT);
+    CHECK_STATUS(CFE_SB_GetPipeOpts(pipe, NULL), CFE_SB_BAD_ARGUMENT);
+    CHECK_STATUS(CFE_SB_DeletePipe(other), CFE_SUCCESS);
+    CHECK_STATUS(CFE_SB_DeletePipe(other), CFE_SB_BAD_ARGUMENT);
+    CHECK_STATUS(CFE_SB_DeletePipe(pipe), CFE_SUCCESS);
+}
+
+static void check_messages(void)
+{
+    CFE_SB_Buffer_t *buffer;
+    CFE_SB_PipeId_t pipe = pipe_for("M", TLM_ID);
+    CHECK_STATUS(CFE_SB_Subscribe(TLM_ID, pipe), CFE_SUCCESS);
+    CHECK_STATUS(CFE_SB_Subscribe(0, pipe), CFE_SB_BAD_ARGUMENT);
+    CHECK_STATUS(CFE_SB_Subscribe(CFE_SB_INVALID_MSG_ID, pipe), CFE_SB_BAD_ARGUMENT);
+    CHECK_STATUS(CFE_SB_Subscribe(TLM_ID, 99), CFE_SB_BAD_ARGUMENT);
+    CHECK_STATUS(CFE_SB_SubscribeLocal(OTHER_ID, pipe, 1), CFE_SUCCESS);
+    CHECK_STATUS(CFE_SB_ReceiveBuffer(NULL, pipe, CFE_SB_POLL), CFE_SB_BAD_ARGUMENT);
+    CHECK_STATUS(CFE_SB_ReceiveBuffer(&buffer, 99, CFE_SB_POLL), CFE_SB_BAD_ARGUMENT);
+    CHECK_STATUS(CFE_SB_ReceiveBuffer(&buffer, pipe, -2), CFE_SB_BAD_ARGUMENT);
+    CHECK_STATUS(CFE_SB_ReceiveBuffer(&buffer, pipe, CFE_SB_POLL), CFE_SB_NO_MESSAGE);
+    CHECK_STATUS(CFE_SB_ReceiveBuffer(&buffer, pipe, 20), CFE_SB_TIME_OUT);
+    CHECK(!buffer);
+    CHECK_STATUS(CFE_SB_TransmitMsg(NULL, true), CFE_SB_BAD_ARGUMENT);
+    for (uint32 i = 1; i <= 3; i++)
+        CHECK_STATUS(send(TLM_ID, i), CFE_SUCCESS);
+    for (uint32 i = 1; i <= 3; i++) {
+        CHECK_STATUS(CFE_SB_ReceiveBuffer(&buffer, pipe, CFE_SB_PEND_FOREVER), CFE_SUCCESS);
+        CHECK(value_in(buffer) == i && count_in(buffer) == i);
+    }
+    /* A limit of one message for the other id; a command keeps its count. */
+    CHECK_STATUS(send(OTHER_ID, 1), CFE_SUCCESS);
+    CHECK_STATUS(send(OTHER_ID, 2), CFE_SUCCESS);
+    CHECK_STATUS(CFE_SB_ReceiveBuffer(&buffer, pipe, 1000), CFE_SUCCESS);
+    CHECK(value_in(buffer) == 1);
+    CHECK_STATUS(CFE_SB_ReceiveBuffer(&buffer, pipe, CFE_SB_POLL), CFE_SB_NO_MESSAGE);
+    CHECK_STATUS(CFE_SB_Subscribe(CMD_ID, pipe), CFE_SUCCESS);
+    cmd_t cmd;
+    CHECK_STATUS(CFE_MSG_Init(CFE_MSG_PTR(cmd.header), CMD_ID, sizeof cmd), CFE_SUCCESS);
+    CHECK_STATUS(CFE_MSG_SetSequenceCount(CFE_MSG_PTR(cmd.header), 77), CFE_SUCCESS);
+    CHECK_STATUS(CFE_SB_TransmitMsg(CFE_MSG_PTR(cmd.header), true), CFE_SUCCESS);
+    CHECK_STATUS(CFE_SB_ReceiveBuffer(&buffer, pipe, CFE_SB_POLL), CFE_SUCCESS);
+    CHECK(count_in(buffer) == 77);
+    CHECK_STATUS(CFE_SB_Unsubscribe(CMD_ID, pipe), CFE_SUCCESS);
+    CHECK_STATUS(CFE_SB_UnsubscribeLocal(OTHER_ID, pipe), CFE_SUCCESS);
+    CHECK_STATUS(CFE_SB_TransmitMsg(CFE_MSG_PTR(cmd.header), true), CFE_SUCCESS);
+    CHECK_STATUS(CFE_SB_ReceiveBuffer(&buffer, pipe, CFE_SB_POLL), CFE_SB_NO_MESSAGE);
+    CHECK_STATUS(CFE_SB_DeletePipe(pipe), CFE_SUCCESS);
+    tlm_t tlm = tlm_of(TLM_ID, 0);
+    CHECK_STATUS(CFE_MSG_SetSize(CFE_MSG_PTR(tlm.header), 65542), CFE_SUCCESS);
+    static union {
+        CFE_MSG_Message_t Msg;
+        uint8 bytes[65542];
+    } large;
+    memcpy(&large, &tlm, sizeof tlm);
+    CHECK_STATUS(CFE_SB_TransmitMsg(&large.Msg, true), CFE_SB_MSG_TOO_BIG);
+}
+
+static void check_buffers(void)
+{
+    CFE_SB_Buffer_t *buffer, *received;
+    CFE_SB_PipeId_t pipe = pipe_for("B", TLM_ID);
+    uint8 other[64] = {0};
+    CHECK(!CFE_SB_AllocateMessageBuffer(6));
+    CHECK(!CFE_SB_AllocateMessageBuffer(65543) && !CFE_SB_AllocateMessageBuffer(SIZE_MAX));
+    buffer = CFE_SB_AllocateMessageBuffer(sizeof(tlm_t));
+    CHECK(buffer && (uintptr_t)buffer % 8 == 0);
+    tlm_t *tlm = (tlm_t *)(void *)buffer;
+    CHECK(tlm->value == 0);
+    CHECK_STATUS(CFE_SB_TransmitBuffer(buffer, true), CFE_SB_BAD_ARGUMENT);
+    CHECK_STATUS(CFE_MSG_Init(CFE_MSG_PTR(tlm->header), TLM_ID, sizeof *tlm), CFE_SUCCESS);
+    tlm->value = 42;
+    CFE_SB_TimeStampMsg(CFE_MSG_PTR(tlm->header));
+    CHECK_STATUS(CFE_SB_TransmitBuffer(buffer, true), CFE_SUCCESS);
+    CHECK_STATUS(CFE_SB_TransmitBuffer(buffer, true), CFE_SB_BUFFER_INVALID);
+    CHECK_STATUS(CFE_SB_ReleaseMessageBuffer(buffer), CFE_SB_BUFFER_INVALID);
+    CHECK_STATUS(CFE_SB_ReceiveBuffer(&received, pipe, CFE_SB_POLL), CFE_SUCCESS);
+    CHECK(received == buffer && value_in(received) == 42);
+    CHECK_STATUS(CFE_SB_TransmitBuffer((CFE_SB_Buffer_t *)(void *)other, true),
+                 CFE_SB_BUFFER_INVALID);
+    CHECK_STATUS(CFE_SB_TransmitBuffer(NULL, true), CFE_SB_BAD_ARGUMENT);
+    CHECK_STATUS(CFE_SB_ReleaseMessageBuffer(NULL), CFE_SB_BAD_ARGUMENT);
+    /* As many as the limits say, then none. */
+    CFE_SB_Buffer_t *all[16];
+    for (size_t i = 0; i < 16; i++)
+        CHECK((all[i] = CFE_SB_AllocateMessageBuffer(16)));
+    CHECK(!CFE_SB_AllocateMessageBuffer(16));
+    for (size_t i = 0; i < 15; i++)
+        CHECK_STATUS(CFE_SB_ReleaseMessageBuffer(all[i]), CFE_SUCCESS);
+    /* The last one is let go at the application's end. */
+}
+
+static void test_bus(void)
+{
+    check_pipes();
+    check_messages();
+    check_buffers();
+}
+
+/* ---- Waits ---- */
+
+static atomic_int phase;
+
+static void wait_for_phase(int number)
+{
+    while (atomic_load(&phase) < number)
+        OS_TaskDelay(1);
+}
+
+static void test_waits(void)
+{
+    CFE_SB_Buffer_t *buffer;
+    CFE_SB_PipeId_t pipe = pipe_for("WAITS", TLM_ID);
+    atomic_store(&phase, 1);
+    for (uint32 i = 1; i <= 100; i++) {
+        int32 wait = i % 2 ? CFE_SB_PEND_FOREVER : 10000;
+        CHECK_STATUS(CFE_SB_ReceiveBuffer(&buffer, pipe, wait), CFE_SUCCESS);
+        CHECK(value_in(buffer) == i);
+        CHECK_STATUS(send(OTHER_ID, i), CFE_SUCCESS);
+    }
+    CHECK_STATUS(CFE_SB_ReceiveBuffer(&buffer, pipe, 5), CFE_SB_TIME_OUT);
+}
+
+static void answer_waits(void)
+{
+    CFE_SB_Buffer_t *buffer;
+    CFE_SB_PipeId_t pipe = pipe_for("ANSWERS", OTHER_ID);
+    wait_for_phase(1);
+    for (uint32 i = 1; i <= 100; i++) {
+        CHECK_STATUS(send(TLM_ID, i), CFE_SUCCESS);
+        CHECK_STATUS(CFE_SB_ReceiveBuffer(&buffer, pipe, CFE_SB_PEND_FOREVER), CFE_SUCCESS);
+        CHECK(value_in(buffer) == i);
+    }
+}
+
+/* ---- Tasks ---- */
+
+static CFE_SB_PipeId_t shared_pipe;
+static atomic_int ended;
+
+static void read_until_deleted(void)
+{
+    CFE_SB_Buffer_t *buffer;
+    CHECK_STATUS(CFE_SB_ReceiveBuffer(&buffer, shared_pipe, CFE_SB_PEND_FOREVER),
+                 CFE_SB_PIPE_RD_ERR);
+    atomic_fetch_add(&ended, 1);
+    CFE_ES_ExitChildTask();
+    CHECK(false);
+}
+
+static void delay_for_ever(void)
+{
+    CFE_ES_AppId_t app;
+    CFE_ES_TaskId_t task;
+    CHECK_STATUS(CFE_ES_GetAppID(&app), CFE_SUCCESS);
+    CHECK(app == 1);
+    CHECK_STATUS(CFE_ES_CreateChildTask(&task, "C", delay_for_ever, NULL, 0, 0, 0),
+                 CFE_ES_ERR_CHILD_TASK_CREATE);
+    atomic_fetch_add(&ended, 1);
+    for (;;)
+        OS_TaskDelay(100000);
+}
+
+static void wait_for_ended(int number)
+{
+    while (atomic_load(&ended) < number)
+        OS_TaskDelay(1);
+}
+
+/* Waits until a task sleeps on a pipe. */
+static void wait_for_sleeper(void)
+{
+    bool is_asleep = false;
+    while (!is_asleep) {
+        OS_TaskDelay(1);
+        CHECK(fsw_enter());
+        is_asleep = fsw_layer.asleep;
+        fsw_leave();
+    }
+}
+
+static void test_tasks(void)
+{
+    CFE_ES_TaskId_t task, self;
+    CFE_ES_AppId_t app;
+    char name[OS_MAX_API_NAME];
+    atomic_store(&ended, 0);
+    CHECK_STATUS(CFE_ES_GetAppID(NULL), CFE_ES_BAD_ARGUMENT);
+    CHECK_STATUS(CFE_ES_GetAppIDByName(&app, "FIRST"), CFE_SUCCESS);
+    CHECK(app == 1);
+    CHECK_STATUS(CFE_ES_GetAppIDByName(&app, "NOBODY"), CFE_ES_ERR_NAME_NOT_FOUND);
+    CHECK_STATUS(CFE_ES_GetAppName(name, 1, sizeof name), CFE_SUCCESS);
+    CHECK(strcmp(name, "FIRST") == 0);
+    CHECK_STATUS(CFE_ES_GetAppName(name, 2, sizeof name), CFE_ES_ERR_RESOURCEID_NOT_VALID);
+    shared_pipe = pipe_for("SHARED", TLM_ID);
+    CHECK_STATUS(CFE_ES_CreateChildTask(NULL, "C", read_until_deleted, NULL, 0, 0, 0),
+                 CFE_ES_BAD_ARGUMENT);
+    CHECK_STATUS(CFE_ES_CreateChildTask(&task, "C", read_until_deleted, CFE_ES_TASK_STACK_ALLOCATE,
+                                        8192, 100, 0),
+                 CFE_SUCCESS);
+    wait_for_sleeper();
+    CHECK_STATUS(CFE_SB_DeletePipe(shared_pipe), CFE_SUCCESS);
+    wait_for_ended(1);
+    CHECK_STATUS(CFE_ES_CreateChildTask(&task, "D", delay_for_ever, NULL, 0, 0, 0), CFE_SUCCESS);
+    wait_for_ended(2);
+    CHECK_STATUS(CFE_ES_GetTaskID(&self), CFE_SUCCESS);
+    CHECK(self != task);
+    CHECK_STATUS(CFE_ES_DeleteChildTask(self), CFE_ES_ERR_CHILD_TASK_DELETE_MAIN_TASK);
+    CHECK_STATUS(CFE_ES_DeleteChildTask(99), CFE_ES_ERR_RESOURCEID_NOT_VALID);
+    CHECK_STATUS(CFE_ES_DeleteChildTask(task), CFE_SUCCESS);
+    /* This one ends with the application. */
+    CHECK_STATUS(CFE_ES_CreateChildTask(&task, "E", delay_for_ever, NULL, 0, 0, 0), CFE_SUCCESS);
+    wait_for_ended(3);
+    CFE_ES_ExitApp(CFE_ES_RunStatus_APP_EXIT);
+    CHECK(false);
+}
+
+static void check_mutexes(void)
+{
+    osal_id_t id, other;
+    CHECK(OS_MutSemCreate(&id, "MUTEX", 0) == OS_SUCCESS && OS_ObjectIdDefined(id));
+    CHECK(OS_MutSemCreate(&other, "MUTEX", 0) == OS_ERR_NAME_TAKEN);
+    CHECK(OS_MutSemCreate(NULL, "M", 0) == OS_INVALID_POINTER);
+    CHECK(OS_MutSemCreate(&other, "TWENTY_BYTES_OF_NAME", 0) == OS_ERR_NAME_TOO_LONG);
+    CHECK(OS_MutSemGetIdByName(&other, "MUTEX") == OS_SUCCESS && OS_ObjectIdEqual(id, other));
+    CHECK(OS_MutSemGetIdByName(&other, "NONE") == OS_ERR_NAME_NOT_FOUND);
+    CHECK(OS_MutSemTake(id) == OS_SUCCESS && OS_MutSemTake(id) == OS_SUCCESS);
+    CHECK(OS_MutSemGive(id) == OS_SUCCESS && OS_MutSemGive(id) == OS_SUCCESS);
+    CHECK(OS_MutSemTake(0) == OS_ERR_INVALID_ID && OS_MutSemTake(99) == OS_ERR_INVALID_ID);
+    CHECK(OS_MutSemDelete(id) == OS_SUCCESS && OS_MutSemDelete(id) == OS_ERR_INVALID_ID);
+}
+
+/* ---- Pools ---- */
+
+static CFE_ES_STATIC_POOL_TYPE(4096) memory;
+
+static void test_pools(void)
+{
+    CFE_ES_MemHandle_t pool;
+    CFE_ES_MemPoolBuf_t first, second, third;
+    CFE_ES_MemPoolStats_t stats;
+    check_mutexes();
+    CHECK_STATUS(CFE_ES_PoolCreate(&pool, NULL, 4096), CFE_ES_BAD_ARGUMENT);
+    CHECK_STATUS(CFE_ES_PoolCreate(&pool, memory.Data + 1, 4000), CFE_ES_BAD_ARGUMENT);
+    CHECK_STATUS(CFE_ES_PoolCreate(&pool, memory.Data, 8), CFE_ES_ERR_MEM_BLOCK_SIZE);
+    CHECK_STATUS(CFE_ES_PoolCreate(&pool, memory.Data, sizeof memory.Data), CFE_SUCCESS);
+    CHECK(CFE_ES_GetPoolBuf(&first, pool, 20) == 20);
+    CHECK(CFE_ES_GetPoolBuf(&second, pool, 500) == 500);
+    CHECK((uint8 *)first >= memory.Data && (uint8 *)second + 512 <= memory.Data + 4096);
+    CHECK((uintptr_t)first % 8 == 0 && (uint8 *)second >= (uint8 *)first + 32);
+    memset(first, 0xff, 32);
+    memset(second, 0xff, 512);
+    CHECK(CFE_ES_GetPoolBufInfo(pool, first) == 20 && CFE_ES_GetPoolBufInfo(pool, second) == 500);
+    CHECK_STATUS(CFE_ES_GetPoolBuf(&third, pool, 4096), CFE_ES_ERR_MEM_BLOCK_SIZE);
+    CHECK(!third);
+    CHECK_STATUS(CFE_ES_GetPoolBuf(&third, pool, SIZE_MAX), CFE_ES_ERR_MEM_BLOCK_SIZE);
+    CHECK_STATUS(CFE_ES_GetPoolBuf(&third, 9, 8), CFE_ES_ERR_RESOURCEID_NOT_VALID);
+    CHECK_STATUS(CFE_ES_GetPoolBuf(NULL, pool, 8), CFE_ES_BAD_ARGUMENT);
+    CHECK_STATUS(CFE_ES_PutPoolBuf(pool, &stats), CFE_ES_BUFFER_NOT_IN_POOL);
+    CHECK_STATUS(CFE_ES_PutPoolBuf(pool, memory.Data + 4095), CFE_ES_BUFFER_NOT_IN_POOL);
+    CHECK_STATUS(CFE_ES_PutPoolBuf(pool, (uint8 *)second + 8), CFE_ES_POOL_BLOCK_INVALID);
+    CHECK_STATUS(CFE_ES_PutPoolBuf(9, first), CFE_ES_ERR_RESOURCEID_NOT_VALID);
+    CHECK(CFE_ES_PutPoolBuf(pool, first) == 20);
+    CHECK_STATUS(CFE_ES_PutPoolBuf(pool, first), CFE_ES_POOL_BLOCK_INVALID);
+    CHECK_STATUS(CFE_ES_GetPoolBufInfo(pool, first), CFE_ES_POOL_BLOCK_INVALID);
+    CHECK(CFE_ES_GetPoolBuf(&third, pool, 32) == 32 && third == first);
+    CHECK_STATUS(CFE_ES_GetMemPoolStats(&stats, pool), CFE_SUCCESS);
+    CHECK(stats.PoolSize == 4096 && stats.NumBlocksRequested == 3 && stats.CheckErrCtr == 4);
+    CHECK(stats.NumFreeBytes == 4096 - 48 - 528);
+    CHECK(stats.BlockStats[2].BlockSize == 32 && stats.BlockStats[2].NumCreated == 1);
+    CHECK(stats.BlockStats[2].NumFree == 0 && stats.BlockStats[9].NumCreated == 1);
+    CHECK_STATUS(CFE_ES_GetMemPoolStats(NULL, pool), CFE_ES_BAD_ARGUMENT);
+    CHECK_STATUS(CFE_ES_GetMemPoolStats(&stats, 9), CFE_ES_ERR_RESOURCEID_NOT_VALID);
+    wait_for_phase(1);
+    /* The other application ended with four blocks, which are free again. */
+    CFE_ES_MemPoolBuf_t again[4];
+    do {
+        OS_TaskDelay(1);
+        CHECK_STATUS(CFE_ES_GetMemPoolStats(&stats, pool), CFE_SUCCESS);
+    } while (stats.BlockStats[4].NumFree < 4);
+    for (int i = 0; i < 4; i++) {
+        CHECK(CFE_ES_GetPoolBuf(&again[i], pool, 64) == 64);
+        memset(again[i], 0xaa, 64);
+        for (int k = 0; k < i; k++)
+            CHECK(again[i] != again[k]);
+    }
+    CHECK(CFE_ES_PutPoolBuf(pool, second) == 500);
+    /* One that writes past its block spoils what stands before the next; it is refused from then.
+     */
+    ((uint8 *)second)[-8] ^= 1;
+    CHECK_STATUS(CFE_ES_GetPoolBuf(&second, pool, 500), CFE_ES_ERR_MEM_BLOCK_SIZE);
+    CHECK(!second);
+    ((uint8 *)again[3])[-16] ^= 1;
+    CHECK_STATUS(CFE_ES_PutPoolBuf(pool, again[3]), CFE_ES_POOL_BLOCK_INVALID);
+}
+
+static void take_blocks(void)
+{
+    CFE_ES_MemPoolBuf_t buffer;
+    CFE_ES_MemPoolStats_t stats;
+    while (CFE_ES_GetMemPoolStats(&stats, 1) != CFE_SUCCESS || stats.CheckErrCtr < 4 ||
+           stats.NumBlocksRequested < 3)
+        OS_TaskDelay(1);
+    for (int i = 0; i < 4; i++)
+        CHECK(CFE_ES_GetPoolBuf(&buffer, 1, 50) == 50);
+    atomic_store(&phase, 1);
+}
+
+/* ---- Events ---- */
+
+static struct fsw_event_counts event_counts(void)
+{
+    struct fsw_event_counts counts;
+    CHECK(fsw_enter());
+    CHECK_STATUS(fsw_event_counts(&fsw_layer.core, &counts), FSW_SUCCESS);
+    fsw_leave();
+    return counts;
+}
+
+static void check_packet(CFE_SB_PipeId_t pipe)
+{
+    CFE_SB_Buffer_t *buffer;
+    CFE_EVS_LongEventTlm_t packet;
+    char text[300];
+    memset(text, 'x', sizeof text);
+    text[299] = '\0';
+    CHECK_STATUS(CFE_EVS_SendEvent(7, CFE_EVS_EventType_ERROR, "seven %d %s", 7, "words"),
+                 CFE_SUCCESS);
+    CHECK_STATUS(CFE_SB_ReceiveBuffer(&buffer, pipe, CFE_SB_POLL), CFE_SUCCESS);
+    memcpy(&packet, buffer, sizeof packet);
+    CHECK(strcmp(packet.Payload.PacketID.AppName, "FIRST") == 0);
+    CHECK(packet.Payload.PacketID.EventID == 7 && packet.Payload.PacketID.SpacecraftID == 0x42);
+    CHECK(packet.Payload.PacketID.EventType == CFE_EVS_EventType_ERROR);
+    CHECK(packet.Payload.PacketID.ProcessorID == 1 && count_in(buffer) == 1);
+    CHECK(strcmp(packet.Payload.Message, "seven 7 words") == 0);
+    CHECK_STATUS(CFE_EVS_SendEvent(8, CFE_EVS_EventType_DEBUG, "%s", text), CFE_SUCCESS);
+    CHECK_STATUS(CFE_SB_ReceiveBuffer(&buffer, pipe, CFE_SB_POLL), CFE_SUCCESS);
+    memcpy(&packet, buffer, sizeof packet);
+    CHECK(strlen(packet.Payload.Message) == 121 && packet.Payload.Message[120] == '$');
+    CHECK(event_counts().cut == 1);
+}
+
+static void test_events(void)
+{
+    static const CFE_EVS_BinFilter_t filters[9] = {{1, CFE_EVS_FIRST_ONE_STOP},
+                                                   {2, CFE_EVS_EVERY_OTHER_ONE},
+                                                   {3, 0},
+                                                   {4, 0},
+                                                   {5, 0},
+                                                   {6, 0},
+                                                   {17, 0},
+                                                   {18, CFE_EVS_FIRST_TWO_STOP},
+                                                   {19, 0}};
+    static const CFE_EVS_BinFilter_t twice[2] = {{1, 0}, {1, 0}};
+    CFE_SB_PipeId_t pipe = pipe_for("EVENTS", CFE_EVS_LONG_EVENT_MSG_MID);
+    CHECK_STATUS(CFE_EVS_SendEvent(1, CFE_EVS_EventType_ERROR, "x"), CFE_EVS_APP_NOT_REGISTERED);
+    CHECK_STATUS(CFE_EVS_ResetFilter(1), CFE_EVS_APP_NOT_REGISTERED);
+    CHECK_STATUS(CFE_EVS_ResetAllFilters(), CFE_EVS_APP_NOT_REGISTERED);
+    CHECK_STATUS(CFE_EVS_Register(filters, 2, 1), CFE_EVS_UNKNOWN_FILTER);
+    CHECK_STATUS(CFE_EVS_Register(NULL, 2, CFE_EVS_EventFilter_BINARY), CFE_ES_BAD_ARGUMENT);
+    CHECK_STATUS(CFE_EVS_Register(twice, 2, CFE_EVS_EventFilter_BINARY), CFE_EVS_INVALID_PARAMETER);
+    CHECK_STATUS(CFE_EVS_Register(NULL, 0, CFE_EVS_EventFilter_BINARY), CFE_SUCCESS);
+    CHECK_STATUS(CFE_EVS_ResetAllFilters(), CFE_SUCCESS);
+    CHECK_STATUS(CFE_EVS_Register(filters, 9, CFE_EVS_EventFilter_BINARY),
+                 CFE_EVS_APP_FILTER_OVERLOAD);
+    check_packet(pipe);
+    struct fsw_event_counts before = event_counts();
+    for (int i = 0; i < 4; i++) {
+        CHECK_STATUS(CFE_EVS_SendEvent(1, CFE_EVS_EventType_INFORMATION, "one"), CFE_SUCCESS);
+        CHECK_STATUS(CFE_EVS_SendEvent(2, CFE_EVS_EventType_INFORMATION, "two"), CFE_SUCCESS);
+        CHECK_STATUS(CFE_EVS_SendEvent(18, CFE_EVS_EventType_INFORMATION, "three"), CFE_SUCCESS);
+    }
+    CHECK(event_counts().sent - before.sent == 1 + 2 + 2);
+    CHECK(event_counts().filtered - before.filtered == 3 + 2 + 2);
+    CHECK_STATUS(CFE_EVS_ResetFilter(1), CFE_SUCCESS);
+    CHECK_STATUS(CFE_EVS_ResetFilter(19), CFE_EVS_EVT_NOT_REGISTERED);
+    CHECK_STATUS(CFE_EVS_ResetAllFilters(), CFE_SUCCESS);
+    before = event_counts();
+    CHECK_STATUS(CFE_EVS_SendEvent(18, CFE_EVS_EventType_INFORMATION, "three"), CFE_SUCCESS);
+    CHECK(event_counts().sent - before.sent == 1);
+    CHECK_STATUS(CFE_EVS_SendEvent(1, CFE_EVS_EventType_ERROR, NULL), CFE_EVS_INVALID_PARAMETER);
+    CHECK_STATUS(CFE_EVS_SendEvent(1, 9, "x"), CFE_EVS_INVALID_PARAMETER);
+    CHECK_STATUS(CFE_ES_WriteToSysLog(NULL), CFE_ES_BAD_ARGUMENT);
+}
+
+/* ---- Tables ---- */
+
+typedef struct {
+    uint32 number;
+    uint8 bytes[12];
+} table_t;
+
+static int32 validations;
+
+/* It makes calls of its own, as applications' do. */
+static int32 validate(void *at)
+{
+    const table_t *table = at;
+    CFE_EVS_SendEvent(1, CFE_EVS_EventType_DEBUG, "validation of %u", (unsigned)table->number);
+    validations++;
+    if (table->number == 99)
+        return 5;
+    return table->number < 10 ? CFE_SUCCESS : -7;
+}
+
+static const char *path_of(const char *name)
+{
+    static char path[OS_MAX_PATH_LEN];
+    CHECK(snprintf(path, sizeof path, "%s/%s", folder, name) < (int)sizeof path);
+    return path;
+}
+
+/* Writes a table file: cFE's header of 64 bytes, the table's of 52, and the bytes. */
+static const char *write_file(const char *content, uint8 subtype, const char *name, uint32 offset,
+                              const void *bytes, uint8 length, uint8 said)
+{
+    uint8 headers[116] = {0};
+    memcpy(headers, content, 4);
+    headers[7] = subtype;
+    headers[27] = 77;
+    headers[71] = (uint8)offset;
+    headers[75] = said;
+    strcpy((char *)headers + 76, name);
+    const char *path = path_of("table.tbl");
+    FILE *file = fopen(path, "wb");
+    CHECK(file && fwrite(headers, sizeof headers, 1, file) == 1);
+    CHECK(length == 0 || fwrite(bytes, length, 1, file) == 1);
+    fclose(file);
+    return path;
+}
+
+static const char *good_file(uint32 number)
+{
+    table_t table = {number, {1, 2, 3}};
+    return write_file("cFE1", 8, "FIRST.TABLE", 0, &table, sizeof table, sizeof table);
+}
+
+static uint32 number_of(CFE_TBL_Handle_t handle, CFE_Status_t expected)
+{
+    void *at;
+    CHECK_STATUS(CFE_TBL_GetAddress(&at, handle), expected);
+    uint32 number = ((table_t *)at)->number;
+    CHECK_STATUS(CFE_TBL_ReleaseAddress(handle), CFE_SUCCESS);
+    return number;
+}
+
+static void check_registers(void)
+{
+    CFE_TBL_Handle_t handle, other;
+    CHECK_STATUS(CFE_TBL_Register(NULL, "T", 16, 0, NULL), CFE_TBL_BAD_ARGUMENT);
+    CHECK_STATUS(CFE_TBL_Register(&handle, NULL, 16, 0, NULL), CFE_TBL_BAD_ARGUMENT);
+    CHECK_STATUS(CFE_TBL_Register(&handle, "", 16, 0, NULL), CFE_TBL_ERR_INVALID_NAME);
+    CHECK_STATUS(CFE_TBL_Register(&handle, "SIXTEEN_BYTES_OF", 16, 0, NULL),
+                 CFE_TBL_ERR_INVALID_NAME);
+    CHECK_STATUS(CFE_TBL_Register(&handle, "T", 0, 0, NULL), CFE_TBL_ERR_INVALID_SIZE);
+    CHECK_STATUS(CFE_TBL_Register(&handle, "T", 65537, 0, NULL), CFE_TBL_ERR_INVALID_SIZE);
+    CHECK_STATUS(CFE_TBL_Register(&handle, "T", 16, CFE_TBL_OPT_CRITICAL, NULL),
+                 CFE_TBL_ERR_INVALID_OPTIONS);
+    CHECK_STATUS(CFE_TBL_Register(&handle, "T", 16, CFE_TBL_OPT_USR_DEF_ADDR, NULL),
+                 CFE_TBL_ERR_INVALID_OPTIONS);
+    CHECK(handle == CFE_TBL_BAD_TABLE_HANDLE);
+    CHECK_STATUS(CFE_TBL_Register(&handle, "DUMP", 16, CFE_TBL_OPT_DUMP_ONLY, NULL), CFE_SUCCESS);
+    CHECK_STATUS(CFE_TBL_Register(&other, "DUMP", 16, 0, NULL), CFE_TBL_WARN_DUPLICATE);
+    CHECK(other == handle);
+    CHECK_STATUS(CFE_TBL_Register(&other, "DUMP", 17, 0, NULL), CFE_TBL_ERR_DUPLICATE_DIFF_SIZE);
+    CHECK_STATUS(CFE_TBL_Load(handle, CFE_TBL_SRC_ADDRESS, "0123456789abcdef"),
+                 CFE_TBL_ERR_DUMP_ONLY);
+    CHECK_STATUS(CFE_TBL_Unregister(handle), CFE_SUCCESS);
+    CHECK_STATUS(CFE_TBL_Unregister(handle), CFE_TBL_ERR_INVALID_HANDLE);
+    CHECK_STATUS(CFE_TBL_Share(&other, "FIRST.DUMP"), CFE_TBL_ERR_INVALID_NAME);
+}
+
+static void check_loads(CFE_TBL_Handle_t handle)
+{
+    table_t table = {1, {0}};
+    void *at;
+    CHECK_STATUS(CFE_TBL_GetAddress(&at, handle), CFE_TBL_ERR_NEVER_LOADED);
+    CHECK(at && ((table_t *)at)->number == 0);
+    CHECK_STATUS(CFE_TBL_GetAddress(NULL, handle), CFE_TBL_BAD_ARGUMENT);
+    CHECK_STATUS(CFE_TBL_Load(handle, CFE_TBL_SRC_ADDRESS, &table), CFE_TBL_INFO_TABLE_LOCKED);
+    CHECK_STATUS(CFE_TBL_ReleaseAddress(handle), CFE_SUCCESS);
+    CHECK_STATUS(CFE_TBL_Load(handle, CFE_TBL_SRC_ADDRESS, NULL), CFE_TBL_BAD_ARGUMENT);
+    CHECK_STATUS(CFE_TBL_Load(handle, (CFE_TBL_SrcEnum_t)2, &table), CFE_TBL_ERR_ILLEGAL_SRC_TYPE);
+    CHECK_STATUS(CFE_TBL_Load(77, CFE_TBL_SRC_ADDRESS, &table), CFE_TBL_ERR_INVALID_HANDLE);
+    CHECK_STATUS(CFE_TBL_Load(-1, CFE_TBL_SRC_ADDRESS, &table), CFE_TBL_ERR_INVALID_HANDLE);
+    CHECK_STATUS(CFE_TBL_Load(handle, CFE_TBL_SRC_ADDRESS, &table), CFE_SUCCESS);
+    CHECK(number_of(handle, CFE_TBL_INFO_UPDATED) == 1 && number_of(handle, CFE_SUCCESS) == 1);
+    table.number = 10;
+    CHECK_STATUS(CFE_TBL_Load(handle, CFE_TBL_SRC_ADDRESS, &table), -7);
+    table.number = 99;
+    CHECK_STATUS(CFE_TBL_Load(handle, CFE_TBL_SRC_ADDRESS, &table), -1);
+    CHECK(number_of(handle, CFE_SUCCESS) == 1 && validations == 4);
+}
+
+static void check_files(CFE_TBL_Handle_t handle)
+{
+    CFE_TBL_Info_t info;
+    table_t table = {3, {0}};
+    char path[100] = "/";
+    CFE_TBL_SrcEnum_t file = CFE_TBL_SRC_FILE;
+    CHECK_STATUS(CFE_TBL_Load(handle, file, good_file(2)), CFE_SUCCESS);
+    CHECK(number_of(handle, CFE_TBL_INFO_UPDATED) == 2);
+    CHECK_STATUS(CFE_TBL_GetInfo(&info, "FIRST.TABLE"), CFE_SUCCESS);
+    CHECK(info.Size == sizeof table && info.TableLoadedOnce && info.NumUsers == 1 && info.Crc);
+    CHECK(!info.DumpOnly && !info.DoubleBuffered && info.FileCreateTimeSecs == 77);
+    CHECK(strcmp(info.LastFileLoaded, path_of("table.tbl")) == 0);
+    CHECK_STATUS(CFE_TBL_GetInfo(&info, "TABLE"), CFE_TBL_ERR_INVALID_NAME);
+    CHECK_STATUS(CFE_TBL_GetInfo(NULL, "TABLE"), CFE_TBL_BAD_ARGUMENT);
+    CHECK_STATUS(CFE_TBL_Load(handle, file, path_of("none")), CFE_TBL_ERR_ACCESS);
+    memset(path, 'a', sizeof path - 1);
+    CHECK_STATUS(CFE_TBL_Load(handle, file, path), CFE_TBL_ERR_FILENAME_TOO_LONG);
+    CHECK_STATUS(CFE_TBL_Load(handle, file,
+                              write_file("cFE2", 8, "FIRST.TABLE", 0, &table, 16, 16)),
+                 CFE_TBL_ERR_BAD_CONTENT_ID);
+    CHECK_STATUS(CFE_TBL_Load(handle, file,
+                              write_file("cFE1", 7, "FIRST.TABLE", 0, &table, 16, 16)),
+                 CFE_TBL_ERR_BAD_SUBTYPE_ID);
+    CHECK_STATUS(CFE_TBL_Load(handle, file, write_file("cFE1", 8, "", 0, &table, 16, 16)),
+                 CFE_TBL_ERR_NO_TBL_HEADER);
+    CHECK_STATUS(CFE_TBL_Load(handle, file,
+                              write_file("cFE1", 8, "OTHER.TABLE", 0, &table, 16, 16)),
+                 CFE_TBL_ERR_FILE_FOR_WRONG_TABLE);
+    CHECK_STATUS(CFE_TBL_Load(handle, file,
+                              write_file("cFE1", 8, "FIRST.TABLE", 0, &table, 15, 16)),
+                 CFE_TBL_ERR_FILE_SIZE_INCONSISTENT);
+    CHECK_STATUS(CFE_TBL_Load(handle, file,
+                              write_file("cFE1", 8, "FIRST.TABLE", 1, &table, 16, 16)),
+                 CFE_TBL_ERR_FILE_TOO_LARGE);
+    CHECK_STATUS(CFE_TBL_Load(handle, file, write_file("cFE1", 8, "FIRST.TABLE", 0, path, 30, 30)),
+                 CFE_TBL_ERR_FILE_TOO_LARGE);
+    CHECK(number_of(handle, CFE_SUCCESS) == 2);
+    /* A part of a table that was loaded. */
+    CHECK_STATUS(CFE_TBL_Load(handle, file, write_file("cFE1", 8, "FIRST.TABLE", 4, "abc", 3, 3)),
+                 CFE_SUCCESS);
+    CHECK(number_of(handle, CFE_TBL_INFO_UPDATED) == 2);
+}
+
+static CFE_TBL_Handle_t fragile;
+
+static int32 end_task(void *at)
+{
+    (void)at;
+    atomic_fetch_add(&ended, 1);
+    CFE_ES_ExitChildTask();
+    return CFE_SUCCESS;
+}
+
+static void load_and_end(void)
+{
+    CFE_TBL_Load(fragile, CFE_TBL_SRC_ADDRESS, "abcd");
+    CHECK(false);
+}
+
+/* A task that ends within a validation function leaves no load behind. */
+static void check_fragile_load(void)
+{
+    CFE_ES_TaskId_t task;
+    atomic_store(&ended, 0);
+    CHECK_STATUS(CFE_TBL_Register(&fragile, "FRAGILE", 4, CFE_TBL_OPT_DEFAULT, end_task),
+                 CFE_SUCCESS);
+    CHECK_STATUS(CFE_ES_CreateChildTask(&task, "C", load_and_end, NULL, 0, 0, 0), CFE_SUCCESS);
+    wait_for_ended(1);
+    CFE_Status_t status;
+    /* The main task isn't ended by CFE_ES_ExitChildTask. */
+    while ((status = CFE_TBL_Load(fragile, CFE_TBL_SRC_ADDRESS, "abcd")) ==
+           CFE_TBL_ERR_LOAD_IN_PROGRESS)
+        OS_TaskDelay(1);
+    CHECK_STATUS(status, CFE_SUCCESS);
+    CHECK_STATUS(CFE_TBL_Unregister(fragile), CFE_SUCCESS);
+}
+
+static void check_stages(CFE_TBL_Handle_t handle)
+{
+    table_t table = {5, {0}};
+    CHECK_STATUS(CFE_TBL_GetStatus(handle), CFE_SUCCESS);
+    CHECK_STATUS(CFE_TBL_Manage(handle), CFE_SUCCESS);
+    CHECK_STATUS(CFE_TBL_Validate(handle), CFE_TBL_INFO_NO_VALIDATION_PENDING);
+    CHECK_STATUS(CFE_TBL_Update(handle), CFE_TBL_INFO_NO_UPDATE_PENDING);
+    CHECK_STATUS(fsw_stage_table(good_file(4)), CFE_SUCCESS);
+    CHECK_STATUS(fsw_stage_table(good_file(4)), CFE_TBL_ERR_LOAD_IN_PROGRESS);
+    CHECK_STATUS(CFE_TBL_Load(handle, CFE_TBL_SRC_ADDRESS, &table), CFE_TBL_ERR_LOAD_IN_PROGRESS);
+    CHECK_STATUS(CFE_TBL_GetStatus(handle), CFE_TBL_INFO_VALIDATION_PENDING);
+    CHECK_STATUS(CFE_TBL_Update(handle), CFE_TBL_INFO_NO_UPDATE_PENDING);
+    CHECK_STATUS(CFE_TBL_Validate(handle), CFE_SUCCESS);
+    CHECK_STATUS(CFE_TBL_GetStatus(handle), CFE_TBL_INFO_UPDATE_PENDING);
+    CHECK(number_of(handle, CFE_SUCCESS) == 2);
+    CHECK_STATUS(CFE_TBL_Update(handle), CFE_SUCCESS);
+    CHECK(number_of(handle, CFE_TBL_INFO_UPDATED) == 4);
+    CHECK_STATUS(fsw_stage_table(good_file(6)), CFE_SUCCESS);
+    CHECK_STATUS(CFE_TBL_Manage(handle), CFE_SUCCESS);
+    CHECK(number_of(handle, CFE_TBL_INFO_UPDATED) == 6);
+    CHECK_STATUS(fsw_stage_table(good_file(11)), CFE_SUCCESS);
+    CHECK_STATUS(CFE_TBL_Manage(handle), -7);
+    CHECK_STATUS(CFE_TBL_GetStatus(handle), CFE_SUCCESS);
+    CHECK_STATUS(fsw_stage_table(NULL), CFE_TBL_BAD_ARGUMENT);
+    CHECK_STATUS(fsw_stage_table(path_of("none")), CFE_TBL_ERR_ACCESS);
+    CHECK_STATUS(fsw_stage_table(write_file("cFE1", 8, "NO.TABLE", 0, &table, 16, 16)),
+                 CFE_TBL_ERR_INVALID_NAME);
+}
+
+static void test_tables(void)
+{
+    CFE_TBL_Handle_t handle, twice, pair[2];
+    void *first, *second, **places[2] = {&first, &second};
+    validations = 0;
+    CHECK_STATUS(CFE_EVS_Register(NULL, 0, CFE_EVS_EventFilter_BINARY), CFE_SUCCESS);
+    check_registers();
+    CHECK_STATUS(CFE_TBL_Register(&handle, "TABLE", sizeof(table_t), CFE_TBL_OPT_DEFAULT, validate),
+                 CFE_SUCCESS);
+    check_loads(handle);
+    check_files(handle);
+    check_stages(handle);
+    check_fragile_load();
+    CHECK_STATUS(CFE_TBL_Register(&twice, "TWICE", sizeof(table_t), CFE_TBL_OPT_DBL_BUFFER, NULL),
+                 CFE_SUCCESS);
+    table_t table = {1, {0}};
+    CHECK_STATUS(CFE_TBL_Load(twice, CFE_TBL_SRC_ADDRESS, &table), CFE_SUCCESS);
+    pair[0] = handle;
+    pair[1] = twice;
+    CHECK_STATUS(CFE_TBL_GetAddresses(places, 2, pair), CFE_TBL_INFO_UPDATED);
+    CHECK(((table_t *)first)->number == 6 && ((table_t *)second)->number == 1);
+    table.number = 2;
+    CHECK_STATUS(CFE_TBL_Load(twice, CFE_TBL_SRC_ADDRESS, &table), CFE_SUCCESS);
+    CHECK(((table_t *)second)->number == 1);
+    CHECK_STATUS(CFE_TBL_ReleaseAddresses(2, pair), CFE_SUCCESS);
+    CHECK(number_of(twice, CFE_TBL_INFO_UPDATED) == 2);
+    atomic_store(&phase, 1);
+    wait_for_phase(2);
+    CHECK_STATUS(CFE_TBL_Unregister(handle), CFE_SUCCESS);
+    atomic_store(&phase, 3);
+    wait_for_phase(4);
+}
+
+/* Another application shares the table, and loads it. */
+static void share_tables(void)
+{
+    CFE_TBL_Handle_t handle, own;
+    CFE_TBL_Info_t info;
+    void *at;
+    table_t table = {8, {0}};
+    wait_for_phase(1);
+    CHECK_STATUS(CFE_TBL_Share(&handle, "FIRST.NONE"), CFE_TBL_ERR_INVALID_NAME);
+    CHECK_STATUS(CFE_TBL_Share(NULL, "FIRST.TABLE"), CFE_TBL_BAD_ARGUMENT);
+    CHECK_STATUS(CFE_TBL_Share(&handle, "FIRST.TABLE"), CFE_SUCCESS);
+    CHECK_STATUS(CFE_TBL_Load(handle, CFE_TBL_SRC_ADDRESS, &table), CFE_SUCCESS);
+    CHECK(number_of(handle, CFE_TBL_INFO_UPDATED) == 8);
+    CHECK_STATUS(CFE_TBL_GetInfo(&info, "FIRST.TABLE"), CFE_SUCCESS);
+    CHECK(info.NumUsers == 2);
+    CHECK_STATUS(CFE_TBL_GetAddress(&at, 0), CFE_TBL_ERR_NO_ACCESS);
+    /* A table of the same short name is another table. */
+    CHECK_STATUS(CFE_TBL_Register(&own, "TABLE", 4, CFE_TBL_OPT_DEFAULT, NULL), CFE_SUCCESS);
+    CHECK_STATUS(CFE_TBL_GetAddress(&at, handle), CFE_SUCCESS);
+    atomic_store(&phase, 2);
+    wait_for_phase(3);
+    CHECK(((table_t *)at)->number == 8);
+    CHECK_STATUS(CFE_TBL_ReleaseAddress(handle), CFE_SUCCESS);
+    CHECK_STATUS(CFE_TBL_GetAddress(&at, handle), CFE_TBL_ERR_UNREGISTERED);
+    CHECK(!at);
+    CHECK_STATUS(CFE_TBL_Unregister(handle), CFE_SUCCESS);
+    atomic_store(&phase, 4);
+}
+
+/* ---- Runs ---- */
+
+static void go_on_until_stop(void)
+{
+    CFE_SB_Buffer_t *buffer;
+    uint32 status = CFE_ES_RunStatus_APP_RUN;
+    CFE_SB_PipeId_t pipe = pipe_for("STOP", TLM_ID);
+    CFE_ES_WaitForStartupSync(10000);
+    while (CFE_ES_RunLoop(&status))
+        CHECK_STATUS(CFE_SB_ReceiveBuffer(&buffer, pipe, CFE_SB_PEND_FOREVER), CFE_SB_PIPE_RD_ERR);
+    CHECK(status == CFE_ES_RunStatus_SYS_DELETE);
+    CFE_ES_ExitApp(CFE_ES_RunStatus_APP_ERROR);
+}
+
+static void stop(void)
+{
+    static const struct fsw_app app = {"FIRST", stop};
+    CFE_ES_WaitForStartupSync(10000);
+    CHECK(fsw_run(NULL, &app, 1) == -1);
+    OS_TaskDelay(20);
+    fsw_stop();
+}
+
+static void fail(void)
+{
+    uint32 status = CFE_ES_RunStatus_APP_RUN;
+    CHECK(CFE_ES_RunLoop(&status) && CFE_ES_RunLoop(NULL));
+    status = CFE_ES_RunStatus_APP_ERROR;
+    CHECK(!CFE_ES_RunLoop(&status));
+    CFE_ES_ExitApp(status);
+}
+
+static void succeed(void)
+{
+    CFE_ES_WaitForStartupSync(1);
+    CFE_ES_PerfLogEntry(1);
+    CFE_ES_PerfLogExit(1);
+}
+
+static void check_refused_runs(void)
+{
+    static const struct fsw_app none = {"", succeed}, twice[2] = {{"A", succeed}, {"A", succeed}},
+                                long_name = {"TWENTY_BYTES_OF_NAME", succeed}, good = {"A", fail},
+                                empty = {"A", NULL};
+    struct fsw_limits limits = FSW_USUAL_LIMITS;
+    CFE_SB_PipeId_t pipe;
+    CFE_SB_Buffer_t *buffer;
+    CFE_ES_AppId_t app;
+    uint32 status = CFE_ES_RunStatus_APP_RUN;
+    CHECK(fsw_run(NULL, NULL, 1) == -1 && fsw_run(NULL, &good, 0) == -1);
+    CHECK(fsw_run(NULL, &none, 1) == -1 && fsw_run(NULL, &empty, 1) == -1);
+    CHECK(fsw_run(NULL, &long_name, 1) == -1 && fsw_run(NULL, twice, 2) == -1);
+    CHECK(fsw_run(NULL, &good, 17) == -1);
+    limits.depth = 0;
+    CHECK(fsw_run(&limits, &good, 1) == -1);
+    CHECK(fsw_run(NULL, &good, 1) == 1);
+    /* Outside an application there is none to make a call. */
+    CHECK_STATUS(CFE_SB_CreatePipe(&pipe, 4, "A"), CFE_SB_BAD_ARGUMENT);
+    CHECK_STATUS(CFE_SB_ReceiveBuffer(&buffer, 1, CFE_SB_POLL), CFE_SB_BAD_ARGUMENT);
+    CHECK_STATUS(CFE_ES_GetAppID(&app), CFE_ES_ERR_RESOURCEID_NOT_VALID);
+    CHECK_STATUS(CFE_EVS_SendEvent(1, 1, "x"), CFE_ES_ERR_RESOURCEID_NOT_VALID);
+    CHECK(!CFE_ES_RunLoop(&status));
+    CHECK(OS_TaskDelay(1) == OS_SUCCESS);
+}
+
+static void run(const char *name, void (*first)(void), void (*second)(void), int expected)
+{
+    const struct fsw_app apps[2] = {{"FIRST", first}, {"SECOND", second}};
+    atomic_store(&phase, 0);
+    int answer = fsw_run(NULL, apps, second ? 2 : 1);
+    if (answer != expected) {
+        fprintf(stderr, "layer_test: %s: fsw_run answers %d, not %d\n", name, answer, expected);
+        exit(1);
+    }
+}
+
+int main(int argc, char **argv)
+{
+    const struct fsw_config config = {.sends_events = true,
+                                      .prints_events = false,
+                                      .spacecraft = 0x42,
+                                      .processor = 1};
+    if (argc > 1)
+        folder = argv[1];
+    fsw_configure(&config);
+    check_refused_runs();
+    run("messages", test_messages, NULL, 0);
+    run("bus", test_bus, NULL, 0);
+    run("waits", test_waits, answer_waits, 0);
+    run("tasks", test_tasks, NULL, 0);
+    run("pools", test_pools, take_blocks, 0);
+    run("events", test_events, NULL, 0);
+    run("tables", test_tables, share_tables, 0);
+    run("stop", go_on_until_stop, stop, 0);
+    run("failure", fail, succeed, 1);
+    CHECK(CFE_ES_CalculateCRC("123456789", 9, 0, CFE_MISSION_ES_CRC_16) == 0xbb3d);
+    unlink(path_of("table.tbl"));
+    printf("layer_test passed\n");
+    return 0;
+}

@@ -1,0 +1,51 @@
+# The examples in cFE's names, and their tests.
+
+# What each program is of.
+MISSION = mission ground_link sample_app
+NODE = sbn_node sbn_zmq
+SAMPLE = sample_test sample_app
+objects = $(patsubst %,$(BUILD)/%$(2).o,$($(1)))
+
+# Processes are joined by ZeroMQ, where it is installed.
+HAS_ZMQ = $(wildcard /usr/include/zmq.h)
+
+INCLUDES += -Iexamples
+HEADERS += $(wildcard examples/*.h)
+ANALYZED += $(addprefix examples/,my_app.c $(addsuffix .c,$(MISSION) $(if $(HAS_ZMQ),$(NODE))))
+PROGRAMS += $(addprefix $(BUILD)/,my_app mission $(if $(HAS_ZMQ),sbn_node))
+# The programs under a sanitizer run in the whole test alone.
+SANITIZED_PROGRAMS = mission.address mission.thread $(if $(HAS_ZMQ),sbn_node.address sbn_node.thread)
+TESTS += $(addprefix $(BUILD)/,sample_test sample_test.address sample_test.thread $(if $(SHORT),,$(SANITIZED_PROGRAMS)))
+
+$(BUILD)/%.o: examples/test/%.c $(HEADERS) | $(BUILD)
+	$(COMPILE) -c $< -o $@
+
+$(BUILD)/my_app: $(BUILD)/my_app.o $(CFE)
+	$(CC) $(CFLAGS) -pthread -o $@ $^
+
+$(BUILD)/mission: $(call objects,MISSION) $(CFE)
+	$(CC) $(CFLAGS) -pthread -o $@ $^
+
+$(BUILD)/mission.address: $(call objects,MISSION,.address) $(ADDRESS_CFE)
+	$(CC) $(ADDRESS) -pthread -o $@ $^
+
+$(BUILD)/mission.thread: $(call objects,MISSION,.thread) $(THREAD_CFE)
+	$(CC) $(THREAD) -pthread -o $@ $^
+
+$(BUILD)/sample_test: $(call objects,SAMPLE) $(CFE)
+	$(CC) $(CFLAGS) -pthread -o $@ $^
+
+$(BUILD)/sample_test.address: $(call objects,SAMPLE,.address) $(ADDRESS_CFE)
+	$(CC) $(ADDRESS) -pthread -o $@ $^
+
+$(BUILD)/sample_test.thread: $(call objects,SAMPLE,.thread) $(THREAD_CFE)
+	$(CC) $(THREAD) -pthread -o $@ $^
+
+$(BUILD)/sbn_node: $(call objects,NODE) $(CFE)
+	$(CC) $(CFLAGS) -pthread -o $@ $^ -lzmq
+
+$(BUILD)/sbn_node.address: $(call objects,NODE,.address) $(ADDRESS_CFE)
+	$(CC) $(ADDRESS) -pthread -o $@ $^ -lzmq
+
+$(BUILD)/sbn_node.thread: $(call objects,NODE,.thread) $(THREAD_CFE)
+	$(CC) $(THREAD) -pthread -o $@ $^ -lzmq

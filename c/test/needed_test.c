@@ -1,0 +1,120 @@
+/*
+ * needed_test.c: fsw_open takes no more memory than fsw_bytes_needed says, and not much less, for
+ * random limits. No call takes memory afterwards. If a request for memory is refused, fsw_open says
+ * so, and the core stays closed.
+ */
+#include "check.h"
+#include "fsw.h"
+#include "fsw_memory.h"
+
+#include <string.h>
+
+enum { OPENINGS = 300, UNIT = 16, LIMITS = 14 };
+
+static size_t taken;
+static unsigned long requests, refused; /* the number of the request that is refused, or 0 */
+
+static size_t rounded(size_t bytes)
+{
+    return bytes ? (bytes + UNIT - 1) / UNIT * UNIT : UNIT;
+}
+
+static struct rattle_tried tried(size_t bytes)
+{
+    static uint8_t nothing;
+    if (++requests == refused)
+        return (struct rattle_tried){false, &nothing};
+    uint8_t *at = malloc(rounded(bytes));
+    CHECK(at);
+    taken += rounded(bytes);
+    return (struct rattle_tried){true, at};
+}
+
+struct rattle_tried rattle_alloc(size_t bytes, size_t align)
+{
+    (void)align;
+    return tried(bytes);
+}
+
+struct rattle_tried rattle_realloc(uint8_t *at, size_t kept, size_t bytes, size_t align)
+{
+    (void)align;
+    struct rattle_tried moved = tried(bytes);
+    if (!moved.ok)
+        return moved;
+    memcpy(moved.at, at, kept < bytes ? kept : bytes);
+    free(at);
+    return moved;
+}
+
+void rattle_dealloc(uint8_t *at)
+{
+    free(at);
+}
+
+static uint32_t draw(uint32_t least, uint32_t most)
+{
+    static uint32_t random = 1;
+    random = random * 1103515245u + 12345u;
+    return least + random / 4096 % (most - least + 1);
+}
+
+static void open_and_close(const struct fsw_limits *limits)
+{
+    struct fsw_core core = {NULL, false};
+    uint64_t needed = fsw_bytes_needed(limits);
+    taken = 0;
+    CHECK_STATUS(fsw_open(&core, limits), FSW_SUCCESS);
+    CHECK(taken <= needed);
+    CHECK(needed <= taken + taken / 4);
+    size_t before = taken;
+    uint32_t pipe;
+    fsw_create_pipe(&core, 1, 1, "A", 1, &pipe);
+    fsw_subscribe(&core, 1, 0x0801, pipe, 1, FSW_GLOBAL);
+    fsw_transmit(&core, 1, "\x08\x01\xc0\x00\x00\x00\x01", 7, true, NULL);
+    CHECK(taken == before);
+    CHECK_STATUS(fsw_close(&core), FSW_SUCCESS);
+}
+
+/* Each request for memory is refused in turn. */
+static void refuse_each(const struct fsw_limits *limits)
+{
+    struct fsw_core core = {NULL, false};
+    unsigned long most = 0;
+    requests = refused = 0;
+    CHECK_STATUS(fsw_open(&core, limits), FSW_SUCCESS);
+    CHECK_STATUS(fsw_close(&core), FSW_SUCCESS);
+    most = requests;
+    for (unsigned long i = 1; i <= most; i++) {
+        requests = 0;
+        refused = i;
+        CHECK_STATUS(fsw_open(&core, limits), FSW_NO_MEMORY);
+        CHECK(!core.is_open && !core.at);
+    }
+    refused = 0;
+    CHECK(most > 10);
+}
+
+int main(void)
+{
+    static const uint32_t least[LIMITS] = {1, 0, 1, 1, 1, 1, 7, 24, 24, 1, 1, 1, 24, 1};
+    static const uint32_t most[LIMITS] = {16,      40,    1024, 256,  64,    1024,    65542,
+                                          1048576, 65536, 256,  1024, 65536, 1048576, 2};
+    const struct fsw_limits usual = FSW_USUAL_LIMITS;
+    struct fsw_limits limits;
+    uint32_t words[LIMITS];
+    _Static_assert(sizeof limits == sizeof words, "a word each");
+    open_and_close(&usual);
+    refuse_each(&usual);
+    for (int i = 0; i < OPENINGS; i++) {
+        for (int j = 0; j < LIMITS; j++) {
+            /* Now and then a limit at its end, and otherwise more small ones than large ones. */
+            uint32_t top = least[j] + (most[j] - least[j]) / draw(1, 20);
+            words[j] = draw(0, 3) ? draw(least[j], top) : draw(0, 1) ? most[j] : least[j];
+        }
+        memcpy(&limits, words, sizeof limits);
+        open_and_close(&limits);
+    }
+    printf("needed_test passed: %d openings\n", OPENINGS + 1);
+    return 0;
+}

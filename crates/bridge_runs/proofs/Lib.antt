@@ -1,0 +1,4 @@
+pub mod BridgeEnds
+pub mod BridgeLaws
+pub mod FewGiven
+pub mod LineSends

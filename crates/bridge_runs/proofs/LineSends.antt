@@ -1,0 +1,201 @@
+-- The applications of side 1 send no more messages than their lines do, and the bridge sends none there.
+use Rattle.std.proofs.Common.{◌≡◌, ℕ, zero, suc, ◌+◌, ◌-◌, ◌<◌, ◌≤◌, ◌==◌, Bool, true, false, cond, List, [], ◌∷◌, ◌++◌, length, map, Option, Some, None, refl, ap, ◌∙◌, subst, arith, eqb-true}
+use Rattle.std.specs.Prelude.{All, slice_index_or}
+use Rattle.std.proofs.lemmas.Bool.{eqb-false, ne_eqb}
+use Rattle.fsw_base.specs.declared.config.Scope.TheVariants.{Global}
+use Rattle.std.proofs.lemmas.List.Elements.{filter-append, All-tail}
+use Rattle.std.proofs.lemmas.List.Sums.{sum_by-append, sum_by-cons}
+use Rattle.bus_words.specs.declared.calls.BusAnswer.{BusAnswer}
+use Rattle.bus_words.specs.declared.calls.BusAnswer.TheVariants as answers
+use Rattle.bus_words.specs.declared.history.Call.{Call}
+use Rattle.bus_words.specs.declared.history.Call.TheVariants as calls
+use Rattle.bus_words.specs.declared.history.Entry.{Entry}
+use Rattle.bus_words.specs.Runs.{callers}
+use Rattle.script_lines.specs.declared.line.Line.{Line}
+use Rattle.script_lines.specs.declared.line.Line.TheVariants as lines
+use Rattle.script_settings.specs.declared.account.Account.{Account}
+use Rattle.script_settings.specs.Accounts.{counted, no_calls}
+use Rattle.app_script.specs.Script.{Application, app_at}
+use Rattle.script_runs.specs.LineCalls.{line_call_of}
+use Rattle.script_runs.specs.Trace.{AfterAnswer, LineEntries, Registers, Trace, call_of, first_registers, own_entries, registers_after}
+use Rattle.script_runs.specs.Written.{Written, first_written, written_after, written_by}
+use Rattle.bridge_plan.specs.declared.routes.Route.{Route}
+use Rattle.bridge_plan.specs.Plan.{PlanText, bridge_of}
+use Rattle.bridge_plan.specs.Sends.{sent_by, sent_from, sends_of}
+use Rattle.bridge_runs.specs.Bridge.{BridgesFrom, Waits, WaitsAndEnds, first_calls, is_pending}
+use Rattle.bridge_runs.specs.Lefts.{is_send, sends_in}
+
+abbrev one_send : Call → ℕ
+one_send call = cond (is_send call) 1 0
+
+sends-cons : (e : Entry) (es : List Entry) → sends_in (e ∷ es) ≡ one_send e.call + sends_in es
+sends-cons e es = sum_by-cons (λ (x : Entry). cond (is_send x.call) 1 0) e es
+
+sends-append : (xs ys : List Entry) → sends_in (xs ++ ys) ≡ sends_in xs + sends_in ys
+sends-append xs ys = sum_by-append (λ (x : Entry). cond (is_send x.call) 1 0) xs ys
+
+-- ---- the lines of an application
+
+abbrev call_sends : Option Call → ℕ
+call_sends None = 0
+call_sends (Some call) = one_send call
+
+line_sends : (registers : Registers) (written : Written) (account : Account) (line : Line) → call_sends (call_of registers written line) ≤ (sent_by account line).lines
+unfolding call_of line_call_of sent_by
+line_sends registers written account (lines.Send id size fill inc) = omega arith
+line_sends registers written account (lines.SendRaw bytes inc) = omega arith
+line_sends registers written account (lines.TransmitBuffer buf inc) = omega arith
+line_sends registers written account lines.Housekeeping = omega arith
+line_sends registers written account line = omega arith
+
+after_answer : (call : Call) (answer : BusAnswer) (Rest : List Entry → Type 0) (n : ℕ) → ((es : List Entry) → Rest es → sends_in es ≤ n) → (es : List Entry) → AfterAnswer call answer Rest es → sends_in es ≤ n
+after_answer (calls.Pend pipe) answers.Pending Rest n on [] after = absurd after
+after_answer (calls.Pend pipe) answers.Pending Rest n on (e ∷ es) after = omega (arith, sends-cons e es, ap one_send after.0, on es after.1)
+after_answer call answer Rest n on es after = on es after
+
+line_entries : (call : Option Call) (Next : Call → BusAnswer → List Entry → Type 0) (Same : List Entry → Type 0) (n : ℕ) → ((c : Call) (answer : BusAnswer) (es : List Entry) → Next c answer es → sends_in es ≤ n) → ((es : List Entry) → Same es → sends_in es ≤ n)
+    → (es : List Entry) → LineEntries call Next Same es → sends_in es ≤ call_sends call + n
+line_entries None Next Same n next same es there = omega (arith, same es there)
+line_entries (Some c) Next Same n next same [] there = absurd there
+line_entries (Some c) Next Same n next same (e ∷ es) there =
+    omega (arith, sends-cons e es, ap one_send there.0, after_answer c e.answer (Next c e.answer) n (next c e.answer) es there.1)
+
+pub trace_sends : (registers : Registers) (written : Written) (account : Account) (lines : List Line) (es : List Entry) → Trace registers written lines es → sends_in es ≤ (sent_from account lines).lines
+trace_sends registers written account [] [] ends = absurd ends
+trace_sends registers written account [] (e ∷ []) ends = omega (arith, sends-cons e [], ap one_send ends)
+trace_sends registers written account [] (e ∷ f ∷ es) ends = absurd ends
+trace_sends registers written account (line ∷ lines) es trace =
+    let rest = (sent_from (counted account line) lines).lines in
+    omega (
+      arith,
+      line_sends registers written account line,
+      line_entries (call_of registers written line)
+          (λ call answer rest. Trace (registers_after registers line answer) (written_after written call answer) lines rest)
+          (λ rest. Trace registers (written_by written registers.buffers line) lines rest) rest
+          (λ call answer es there. trace_sends (registers_after registers line answer) (written_after written call answer) (counted account line) lines es there)
+          (λ es there. trace_sends registers (written_by written registers.buffers line) (counted account line) lines es there) es trace,
+    )
+
+-- ---- all applications
+
+-- the sends of so many applications, from this number on
+abbrev own_sends : ℕ → ℕ → List Entry → ℕ
+own_sends n zero es = 0
+own_sends n (suc count) es = sends_in (own_entries n es) + own_sends (n + 1) count es
+
+own_none : (n count : ℕ) → own_sends n count [] ≡ 0
+own_none n zero = refl
+own_none n (suc count) = omega (arith, own_none (n + 1) count)
+
+own_with : (b : Bool) (n : ℕ) (e : Entry) (es : List Entry) → (e.app == n) ≡ b → sends_in (own_entries n (e ∷ es)) ≡ cond b (one_send e.call) 0 + sends_in (own_entries n es)
+own_with true n e es same = ap (λ b. sends_in (cond b (e ∷ own_entries n es) (own_entries n es))) same ∙ sends-cons e (own_entries n es)
+own_with false n e es same =
+    let kept : sends_in (own_entries n (e ∷ es)) ≡ sends_in (own_entries n es) = ap (λ b. sends_in (cond b (e ∷ own_entries n es) (own_entries n es))) same in
+    omega (arith, kept)
+
+differ : (a b : ℕ) → (a ≡ b → ⊥) → (a == b) ≡ false
+differ a b ne = ne_eqb a b ne
+
+own_past : (n count : ℕ) (e : Entry) (es : List Entry) → e.app < n → own_sends n count (e ∷ es) ≡ own_sends n count es
+own_past n zero e es before = refl
+own_past n (suc count) e es before =
+    omega (arith, own_with false n e es (differ e.app n (λ same. omega (arith, same, before))), own_past (n + 1) count e es (omega (arith, before)))
+
+own_once : (n count : ℕ) (e : Entry) (es : List Entry) → n ≤ e.app → e.app < n + count → own_sends n count (e ∷ es) ≡ one_send e.call + own_sends n count es
+own_once n zero e es from to = absurd (omega (arith, from, to))
+own_once n (suc count) e es from to = decide (e.app == n) refl (own_once (n + 1) count e es)
+  where
+    decide : (b : Bool) → (e.app == n) ≡ b → (n + 1 ≤ e.app → e.app < n + 1 + count → own_sends (n + 1) count (e ∷ es) ≡ one_send e.call + own_sends (n + 1) count es)
+        → own_sends n (suc count) (e ∷ es) ≡ one_send e.call + own_sends n (suc count) es
+    decide true same others = omega (arith, own_with true n e es same, own_past (n + 1) count e es (omega (arith, eqb-true e.app n same)))
+    decide false other others =
+        let later : n + 1 ≤ e.app = omega (arith, from, eqb-false e.app n other) in
+        omega (arith, own_with false n e es other, others later (omega (arith, to)))
+
+all_own : (count : ℕ) (es : List Entry) → All (λ e. (1 ≤ e.app) × (e.app ≤ count)) es → sends_in es ≡ own_sends 1 count es
+all_own count [] all = omega (arith, own_none 1 count)
+all_own count (e ∷ es) all =
+    let first = all 0 e (omega arith) in
+    omega (arith, sends-cons e es, own_once 1 count e es first.0 (omega (arith, first.1)), all_own count es (All-tail (λ (x : Entry). (1 ≤ x.app) × (x.app ≤ count)) e es all))
+
+-- those of a script's applications and of one more
+apps_own : (apps : List Application) (n : ℕ) (es : List Entry) → ((i : ℕ) → i < length apps → sends_in (own_entries (n + i) es) ≤ (sent_from no_calls (slice_index_or apps i (record { name = []; lines = [] })).lines).lines)
+    → own_sends n (suc (length apps)) es ≤ (sends_of apps).lines + sends_in (own_entries (n + length apps) es)
+apps_own [] n es each =
+    let same : n ≡ n + 0 = omega arith in
+    omega (arith, ap (λ k. sends_in (own_entries k es)) same)
+apps_own (app ∷ apps) n es each =
+    let same : n ≡ n + 0 = omega arith in
+    let last : n + 1 + length apps ≡ n + suc (length apps) = omega arith in
+    omega (
+      arith,
+      each 0 (omega arith),
+      ap (λ k. sends_in (own_entries k es)) same,
+      ap (λ k. sends_in (own_entries k es)) last,
+      apps_own apps (n + 1) es (λ i within. subst (λ k. sends_in (own_entries k es) ≤ (sent_from no_calls (slice_index_or apps i (record { name = []; lines = [] })).lines).lines) (moved n i) (each (suc i) (omega (arith, within)))),
+    )
+  where
+    moved : (n i : ℕ) → n + suc i ≡ n + 1 + i
+    moved n i = omega arith
+
+-- ---- the bridge
+
+own_fewer : (app : ℕ) (es : List Entry) → sends_in (own_entries app es) ≤ sends_in es
+own_fewer app [] = omega arith
+own_fewer app (e ∷ es) =
+    elim (e.app == app) as (λ b. (e.app == app) ≡ b → sends_in (own_entries app (e ∷ es)) ≤ sends_in (e ∷ es)) [
+      | true ↦ λ same. omega (arith, own_with true app e es same, sends-cons e es, own_fewer app es)
+      | false ↦ λ same. omega (arith, own_with false app e es same, sends-cons e es, own_fewer app es)
+    ] refl
+
+abbrev calls_send : List Call → ℕ
+calls_send [] = 0
+calls_send (call ∷ calls) = one_send call + calls_send calls
+
+called : (es : List Entry) → sends_in es ≡ calls_send (map (λ (x : ℕ × Call). x.1) (callers es))
+called [] = refl
+called (e ∷ es) = omega (arith, sends-cons e es, called es)
+
+routes_send : (app p : ℕ) (routes : List Route) → calls_send (map (λ (x : ℕ × Call). x.1) (map (λ (call : Call). (app, call)) (map (λ (route : Route). calls.Subscribe route.id p route.limit Global) routes))) ≡ 0
+routes_send app p [] = refl
+routes_send app p (route ∷ routes) = omega (arith, routes_send app p routes)
+
+waits_send : (p : ℕ) (b : Bool) (es : List Entry) → Waits p b es → sends_in es ≡ 0
+waits_send p false [] waits = refl
+waits_send p true [] waits = absurd waits
+waits_send p false (e ∷ es) waits = omega (arith, sends-cons e es, ap one_send waits.0, waits_send p (is_pending e.answer) es waits.1)
+waits_send p true (e ∷ es) waits = omega (arith, sends-cons e es, ap one_send waits.0, waits_send p false es waits.1)
+
+ends_send : (p : ℕ) (es : List Entry) → WaitsAndEnds p es → sends_in es ≡ 0
+ends_send p es waits =
+    let front = waits_send p false (waits.before ++ waits.last ∷ []) waits.waits in
+    omega (arith, ap sends_in waits.all, sends-append waits.before (waits.last ∷ waits.end ∷ []), sends-append waits.before (waits.last ∷ []), sends-cons waits.last (waits.end ∷ []), sends-cons waits.last [], sends-cons waits.end [], ap one_send waits.ends, front)
+
+bridge_sends : (plan : PlanText) (p : ℕ) (history : List Entry) → BridgesFrom plan p history → sends_in (own_entries (bridge_of plan.one) history) ≡ 0
+bridge_sends plan p history from =
+    let app = bridge_of plan.one in
+    let parts = ap (own_entries app) from.begins.whole ∙ filter-append (λ (e : Entry). e.app == app) from.first from.rest in
+    let first : sends_in from.first ≡ 0 = called from.first ∙ ap (λ cs. calls_send (map (λ (x : ℕ × Call). x.1) cs)) from.begins.calls ∙ none in
+    omega (arith, ap sends_in parts, sends-append (own_entries app from.first) (own_entries app from.rest), own_fewer app from.first, first, ends_send p (own_entries app from.rest) from.waits)
+  where
+    none : calls_send (map (λ (x : ℕ × Call). x.1) (map (λ (call : Call). (bridge_of plan.one, call)) (first_calls plan p))) ≡ 0
+    none = omega (arith, routes_send (bridge_of plan.one) p plan.routes)
+
+-- ---- side 1
+
+pub sends_within : (plan : PlanText) (p : ℕ) (history : List Entry)
+    → ((app : ℕ) → 1 ≤ app → app ≤ length plan.one.apps → Trace first_registers first_written (app_at plan.one app).lines (own_entries app history))
+    → All (λ e. (1 ≤ e.app) × (e.app ≤ bridge_of plan.one)) history → BridgesFrom plan p history → sends_in history ≤ (sends_of plan.one.apps).lines
+sends_within plan p history each nobody_else from =
+    let apps = plan.one.apps in
+    let count : length apps + 1 ≡ suc (length apps) = omega arith in
+    let last : 1 + length apps ≡ length apps + 1 = omega arith in
+    let all = all_own (length apps + 1) history nobody_else in
+    let own = apps_own apps 1 history (λ i within. lines_of_app i within) in
+    omega (arith, all, ap (λ k. own_sends 1 k history) count, own, ap (λ k. sends_in (own_entries k history)) last, bridge_sends plan p history from)
+  where
+    lines_of_app : (i : ℕ) → i < length plan.one.apps → sends_in (own_entries (1 + i) history) ≤ (sent_from no_calls (slice_index_or plan.one.apps i (record { name = []; lines = [] })).lines).lines
+    lines_of_app i within =
+        let same : 1 + i - 1 ≡ i = omega arith in
+        let sends = trace_sends first_registers first_written no_calls (app_at plan.one (1 + i)).lines (own_entries (1 + i) history) (each (1 + i) (omega arith) (omega (arith, within))) in
+        subst (λ k. sends_in (own_entries (1 + i) history) ≤ (sent_from no_calls (slice_index_or plan.one.apps k (record { name = []; lines = [] })).lines).lines) same sends

@@ -1,0 +1,4 @@
+pub mod Sides
+pub mod Bridge
+pub mod Bridged
+pub mod Lefts

@@ -1,0 +1,14 @@
+mod AsBox
+mod BufferSteps
+mod BusSteps
+mod EndSteps
+mod LentWalks
+mod LentWords
+mod ManyFilters
+mod Many
+mod Numbers
+mod Ranges
+mod Shown
+mod TableReads
+mod TableSteps
+mod Values

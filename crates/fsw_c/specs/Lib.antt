@@ -1,0 +1,17 @@
+pub mod Args
+pub mod Buffers
+pub mod BusAnswers
+pub mod BusCodes
+pub mod Bytes
+pub mod Codes
+pub mod EndAnswers
+pub mod Figures
+pub mod Lent
+pub mod Limits
+pub mod Owned
+pub mod Rules
+pub mod Shown
+pub mod TableAnswers
+pub mod TableCodes
+pub mod TableReads
+pub mod TableShown

@@ -1,0 +1,66 @@
+-- The limits that a program in C gives, and the core that it gets.
+use Rattle.std.specs.Prelude.{◌≡◌, ℕ, ◌&&◌, Bool, nat_le, [], replicate}
+use Rattle.fsw_base.specs.Blocks.{usual_sizes}
+use Rattle.fsw_base.specs.Limits.{Limits}
+use Rattle.bus_words.specs.Acts.{opening_whole}
+use Rattle.tbl_words.specs.Tables.{opening}
+use Rattle.fsw_core.specs.declared.Core.{Core}
+use Rattle.fsw_c.specs.declared.limits.FswLimits.{FswLimits}
+
+-- the limits given, with the usual block sizes and each sequence count at 0
+abbrev pub limits_in : FswLimits → Limits
+limits_in given = record {
+  msgids = given.msgids;
+  pipes = given.pipes;
+  dests = given.dests;
+  depth = given.depth;
+  msgmax = given.msgmax;
+  pool = given.pool;
+  apppool = given.apppool;
+  tables = given.tables;
+  handles = given.handles;
+  tablemax = given.tablemax;
+  tablepool = given.tablepool;
+  sizes = usual_sizes;
+  starts = [];
+  version = given.version;
+}
+
+-- a number is in a range
+abbrev pub is_in : ℕ → ℕ → ℕ → Bool
+is_in least number most = nat_le least number && nat_le number most
+
+-- the limits of the bus are in their ranges
+abbrev pub are_bus_limits : FswLimits → Bool
+are_bus_limits given =
+    is_in 1 given.msgids 1024 && is_in 1 given.pipes 256 && is_in 1 given.dests 64 &&
+    is_in 1 given.depth 1024 && is_in 7 given.msgmax 65542 && is_in 24 given.pool 16777216 &&
+    is_in 24 given.apppool 1048576 && is_in 1 given.version 2
+
+-- all other limits are
+abbrev pub are_other_limits : FswLimits → Bool
+are_other_limits given =
+    is_in 1 given.apps 16 && nat_le given.buffers 65535 && is_in 1 given.tables 256 &&
+    is_in 1 given.handles 1024 && is_in 1 given.tablemax 65536 && is_in 24 given.tablepool 16777216
+
+-- each limit is in its range
+abbrev pub are_limits : FswLimits → Bool
+are_limits given = are_bus_limits given && are_other_limits given
+
+-- no call was made of the bus and the tables, which serve as many applications as given; and each
+-- application has an empty bag for as much as the limits say
+pub record IsNewCore (given : FswLimits) (core : Core) : Type 0 where
+  pub bus : core.bus.core ≡
+      record {
+        limits = limits_in given;
+        whole = opening_whole (limits_in given) given.apps;
+        loans = [];
+        descs = [];
+      }
+  pub tables : core.tables.core ≡
+      record { limits = limits_in given; state = opening (limits_in given) given.apps; lent = [] }
+  pub bags : core.bus.bags ≡
+      replicate given.apps
+      (record { views = []; buffers = []; view_room = given.pipes; buffer_room = given.buffers })
+  pub table_bags : core.tables.bags ≡
+      replicate given.apps (record { views = []; room = given.handles })

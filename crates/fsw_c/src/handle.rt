@@ -1,0 +1,48 @@
+//! What C holds of the core.
+ghost use Rattle.std.specs.Prelude.{◌≡◌, ◌↔◌, Some, None, IsSome, IsTrue, MatchOption};
+
+use crate::held::Held;
+use fsw_core::Core;
+use std::alloc::Global;
+use std::mem;
+
+/// What C holds of the core: all zero while it is closed.
+#[repr(C)]
+#[derive(Drop)]
+pub struct FswCore {
+    // The core, or none.
+    pub(crate) held: Held,
+    // Whether there is one.
+    pub(crate) is_open: bool,
+    /// It is open where there is a core.
+    pub ghost opened: { IsTrue is_open ↔ IsSome held.value },
+}
+
+impl FswCore {
+    /// One with a core.
+    pub(crate) fn open(core: Box<Core>) -> FswCore
+        ensures { result.held.value ≡ Some core.entry.value }
+    {
+        FswCore {
+            held: Held::of(core),
+            is_open: true,
+        }
+    }
+
+    /// Takes the core out, where there is one.
+    pub(crate) fn take(&mut self, alloc: Global) -> Option<Box<Core>>
+        ensures taken { MatchOption result (self.old.held.value ≡ None)
+            (λ core. self.old.held.value ≡ Some core.value) }
+        ensures closed { self.new.held.value ≡ None }
+    {
+        if !self.is_open {
+            return None;
+        }
+        let closed = FswCore {
+            held: Held::none(alloc),
+            is_open: false,
+        };
+        let FswCore { held, is_open: _ } = mem::replace(self, closed);
+        Some(held.into_box())
+    }
+}

@@ -1,0 +1,46 @@
+//! What C reads where it lies.
+ghost use Rattle.std.specs.Prelude.{◌≡◌, length};
+ghost use Rattle.std.specs.Option.{option_map};
+ghost use Rattle.fsw_c.specs.Shown.{shown_length};
+
+use std::ptr::{from_ref, null};
+
+/// Bytes that are read where they lie.
+#[repr(C)]
+#[derive(Clone, Copy)]
+pub struct FswBytes {
+    /// The first byte.
+    pub at: *const u8,
+    /// How many there are.
+    pub len: usize,
+}
+
+impl FswBytes {
+    /// These bytes.
+    pub(crate) fn of(bytes: &[u8]) -> FswBytes
+        ensures { result.len ≡ length bytes.now }
+    {
+        FswBytes {
+            at: first_of(bytes),
+            len: bytes.len(),
+        }
+    }
+
+    /// These bytes, if there are some.
+    pub(crate) fn of_any(bytes: Option<&[u8]>) -> FswBytes
+        ensures { result.len ≡ shown_length (option_map (λ it. it.now) bytes.entry) }
+    {
+        match bytes {
+            Some(it) => FswBytes::of(it),
+            None => FswBytes { at: null(), len: 0 },
+        }
+    }
+}
+
+/// Where the bytes begin; null where there are none.
+pub(crate) fn first_of(bytes: &[u8]) -> *const u8 {
+    match bytes.first() {
+        Some(first) => from_ref(first),
+        None => null(),
+    }
+}

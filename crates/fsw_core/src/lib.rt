@@ -1,0 +1,174 @@
+//! The bus and the tables of the same applications, with all their memory, as one value: what a
+//! program in C holds.
+//!
+//! ```text
+//! /// An application ends, and then once more.
+//! fn two_ends(alloc: Global) -> Option<Refusal> {
+//!     let mut core = Core::new(alloc, &Config::usual(), 2, 0).ok()?;  // of two applications
+//!     core.bus.create_pipe(1, 4, b"TLM").ok()?.ok()?;                 // 1: its number
+//!     core.end::<Brand, Brand>(1, Blank::new(1), Blank::new(1)).ok()?;
+//!     core.end::<Brand, Brand>(1, Blank::new(1), Blank::new(1)).err() // Some(Refusal::NotActive)
+//! }
+//! ```
+//!
+//! # Proved
+//!
+//! - A new core has had no call.
+//! - An end is a step of the bus, and before it one of the tables, if the application hasn't ended
+//!   there; or it is refused as the bus's box refuses it, and nothing changes.
+#![tactic(auto)]
+
+ghost use Rattle.std.specs.Prelude.{◌≡◌, ◌≤◌, ◌<◌, [], replicate, None, IsSome, IfOk, OnErr, box_value};
+ghost use Rattle.std.specs.Result.{result_err};
+ghost use Rattle.fsw_base.specs.Limits.{limits_of};
+ghost use Rattle.bus_words.specs.Acts.{opening_whole};
+ghost use Rattle.bus_words.specs.declared.calls.BusAnswer.TheVariants.{Done};
+ghost use Rattle.bus_words.specs.declared.history.Call.TheVariants.{End};
+ghost use Rattle.tbl_words.specs.Tables.{opening};
+ghost use Rattle.tbl_words.specs.declared.calls.TblAnswer.TheVariants.{Done as TableDone};
+ghost use Rattle.tbl_words.specs.declared.history.Call.TheVariants.{End as TableEnd};
+ghost use Rattle.sb_plain.specs.Core.{Acts};
+ghost use Rattle.tbl_plain.specs.Core.{Acts as TableActs};
+ghost use Rattle.sb_box.specs.Asked.{unasked_end};
+ghost use Rattle.tbl_box.specs.Asked.{unasked as unasked_tables};
+
+use fsw_base::Config;
+use sb_box::{Refusal, SbBox};
+use std::alloc::{AllocError, Global};
+use step_count::{Blank, Ledger};
+use tbl_box::TblBox;
+
+/// The bus and the tables of the same applications.
+#[derive(Drop)]
+pub struct Core {
+    /// The bus.
+    pub bus: SbBox<'static>,
+    /// The tables.
+    pub tables: TblBox<'static>,
+}
+
+impl Core {
+    /// A core of so many applications, on which no call was made. Each application may hold so many
+    /// unsent buffers.
+    ///
+    /// # Errors
+    /// `AllocError` where memory runs out.
+    pub fn new(alloc: Global, cfg: &Config, apps: u32, buffers: u32) -> Result<Core, AllocError>
+        requires apps { apps ≤ 16 }
+        ensures bus { IfOk result
+            (λ core. core.bus.core ≡
+            record {
+              limits = limits_of cfg.now;
+              whole = opening_whole (limits_of cfg.now) apps;
+              loans = [];
+              descs = [];
+            }) }
+        ensures tables { IfOk result
+            (λ core. core.tables.core ≡
+            record {
+              limits = limits_of cfg.now;
+              state = opening (limits_of cfg.now) apps;
+              lent = [];
+            }) }
+        ensures bags { IfOk result
+            (λ core. core.bus.bags ≡
+            replicate apps
+            (record {
+              views = [];
+              buffers = [];
+              view_room = cfg.now.pipes;
+              buffer_room = buffers;
+            })) }
+        ensures table_bags { IfOk result
+            (λ core. core.tables.bags ≡
+            replicate apps (record { views = []; room = cfg.now.handles })) }
+    {
+        let messages = vec![in alloc; 0; cfg.pool as usize]?;
+        let values = vec![in alloc; 0; cfg.tablepool as usize]?;
+        let work = vec![in alloc; 0; 4 * cfg.tablemax as usize]?;
+        let bus = SbBox::new(alloc, cfg, apps, buffers, messages.leak())?;
+        let tables = TblBox::new(alloc, cfg, apps, values.leak(), work.leak())?;
+        Ok(Core { bus, tables })
+    }
+
+    /// The same in a box.
+    ///
+    /// # Errors
+    /// `AllocError` where memory runs out.
+    pub fn new_boxed(
+        alloc: Global,
+        cfg: &Config,
+        apps: u32,
+        buffers: u32,
+    ) -> Result<Box<Core>, AllocError>
+        requires apps { apps ≤ 16 }
+        ensures bus { IfOk result
+            (λ core. (box_value core).bus.core ≡
+            record {
+              limits = limits_of cfg.now;
+              whole = opening_whole (limits_of cfg.now) apps;
+              loans = [];
+              descs = [];
+            }) }
+        ensures tables { IfOk result
+            (λ core. (box_value core).tables.core ≡
+            record {
+              limits = limits_of cfg.now;
+              state = opening (limits_of cfg.now) apps;
+              lent = [];
+            }) }
+        ensures bags { IfOk result
+            (λ core. (box_value core).bus.bags ≡
+            replicate apps
+            (record {
+              views = [];
+              buffers = [];
+              view_room = cfg.now.pipes;
+              buffer_room = buffers;
+            })) }
+        ensures table_bags { IfOk result
+            (λ core. (box_value core).tables.bags ≡
+            replicate apps (record { views = []; room = cfg.now.handles })) }
+    {
+        let core = Core::new(alloc, cfg, apps, buffers)?;
+        Ok(Box::new(alloc, core)?)
+    }
+
+    /// Drops the core. The memory of messages and tables stays taken.
+    pub fn let_go(core: Box<Core>) {
+        drop(core);
+    }
+
+    /// The application's last call: its table handles go back, then it leaves the bus. It has no
+    /// buffer out.
+    ///
+    /// # Errors
+    /// A [`Refusal`] where neither was asked.
+    pub fn end<L: Ledger, M: Ledger>(
+        &mut self,
+        app: u32,
+        blank: Blank,
+        other: Blank,
+    ) -> Result<(), Refusal>
+        requires name { blank.name ≡ L.name }
+        requires parts { blank.parts ≡ L.parts }
+        requires some_part { 0 < blank.parts }
+        requires other_name { other.name ≡ M.name }
+        requires other_parts { other.parts ≡ M.parts }
+        requires other_part { 0 < other.parts }
+        ensures unasked { result_err result ≡ unasked_end self.old.bus app }
+        ensures nothing { OnErr result (self.new ≡ self.old) }
+        ensures tables { IfOk result
+            (λ answer. unasked_tables self.old.tables.core app TableEnd ≡ None →
+            TableActs self.old.tables.core self.new.tables.core app TableEnd TableDone) }
+        ensures ended { IfOk result
+            (λ answer. IsSome (unasked_tables self.old.tables.core app TableEnd) →
+            self.new.tables ≡ self.old.tables) }
+        ensures bus { IfOk result
+            (λ answer. Acts self.old.bus.core self.new.bus.core app End Done) }
+    {
+        self.bus.may_end(app)?;
+        let _ = self.tables.end::<L>(app, blank);
+        self.bus.end::<M>(app, other)
+    }
+}

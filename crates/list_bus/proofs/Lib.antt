@@ -1,0 +1,11 @@
+pub mod Counters
+pub mod DecidedCalls
+pub mod Ends
+pub mod HeaderFaults
+pub mod PipeNames
+pub mod Packets
+pub mod Plays
+pub mod PoolCalls
+pub mod ReceiveCalls
+pub mod SendCalls
+pub mod Subscriptions

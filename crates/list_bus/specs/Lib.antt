@@ -1,0 +1,4 @@
+pub mod Decided
+pub mod Inside
+pub mod Played
+pub mod Standings

@@ -1,0 +1,13 @@
+use Rattle.std.proofs.Common.{refl, sym, subst, ap, ◌∙◌}
+use Rattle.list_messages.specs.Messages.{Named, IsKept, account_in}
+use Rattle.list_messages.specs.Inside.{named_in}
+use Rattle.list_messages.proofs.NamedNumbers.{kept_account}
+use Rattle.list_messages.proofs.messages.ListMessages.account.Goals as goal
+
+pub returns : goal.returns
+returns c =
+    let m = c.self.inside in
+    let holds = subst (λ (t : Named). IsKept t) (sym c.self.view_is) c.requires in
+    c.account.ensures
+    ∙ (kept_account m.sends.uses m.given m.pipes.items m.unsent.items m.created holds m.sends (named_in m).part refl refl
+    ∙ ap (λ (t : Named). account_in t.part) c.self.view_is)

@@ -1,0 +1,10 @@
+use Rattle.std.proofs.Common.{sym, subst}
+use Rattle.list_messages.specs.Messages.{Named, IsKept}
+use Rattle.list_messages.proofs.NamedNumbers.{kept_deleted}
+use Rattle.list_messages.proofs.messages.ListMessages.delete.Goals as goal
+
+pub returns-clause-kept : goal.returns-clause-kept
+returns-clause-kept c =
+    let m = c.self.inside in
+    rw (c.drop_names.ensures, c.leave_pipe.ensures, c.deref-2.ensures.value, c.in_ok-gone.ensures, c.deref.ensures.value)
+    (kept_deleted m.sends.uses m.given m.pipes.items m.unsent.items m.created (subst (λ (t : Named). IsKept t) (sym c.self.view_is) c.requires) c.args.pipe)

@@ -1,0 +1,10 @@
+use Rattle.std.proofs.Common.{sym, subst}
+use Rattle.list_messages.specs.Messages.{Named, IsKept}
+use Rattle.list_messages.proofs.NamedNumbers.{kept_left}
+use Rattle.list_messages.proofs.messages.ListMessages.release.Goals as goal
+
+pub returns-clause-kept : goal.returns-clause-kept
+returns-clause-kept c =
+    let m = c.self.inside in
+    rw (c.drop_names.ensures, c.deref.ensures.value, c.in_ok-gone.ensures.after, c.in_ok-gone.ensures.gone)
+    (kept_left m.sends.uses m.given m.pipes.items m.unsent.items m.created (subst (λ (t : Named). IsKept t) (sym c.self.view_is) c.requires) c.args.app c.args.number)

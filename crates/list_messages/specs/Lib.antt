@@ -1,0 +1,4 @@
+pub mod Inside
+pub mod Messages
+pub mod Sends
+pub mod Tied

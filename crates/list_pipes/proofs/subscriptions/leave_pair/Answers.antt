@@ -1,0 +1,7 @@
+-- The closure passes the other pairs.
+use Rattle.std.proofs.Common.{rules, eqb, not, ◌&&◌}
+use Rattle.std.proofs.lemmas.Fn.{filter_same}
+use Rattle.list_pipes.proofs.subscriptions.leave_pair.Goals as goal
+
+pub returns-clause-others : goal.returns-clause-others
+returns-clause-others c = filter_same _ (λ sub. not (eqb sub.id c.args.id && eqb sub.pipe c.args.pipe)) _ (λ x b f' called. search rules) _ _ c.retain.ensures.filtered

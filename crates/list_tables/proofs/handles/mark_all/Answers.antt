@@ -1,0 +1,9 @@
+use Rattle.std.proofs.Common.{cond, eqb}
+use Rattle.tbl_words.specs.Tables.{Handle, with_mark}
+use Rattle.list_tables.proofs.Places.{map_in_place_more}
+use Rattle.list_tables.proofs.handles.mark_all.Goals as goal
+
+pub loop-handle-preserved : goal.loop-handle-preserved
+loop-handle-preserved c =
+    map_in_place_more (λ (h : Handle). cond (eqb h.table c.args.table) (with_mark h) h) _ _ _ _ _
+    c.loop-handle-test.true c.loop-handle.auto.handle-items c.loop-handle.invariant c.mark_if.ensures

@@ -1,0 +1,6 @@
+use Rattle.std.proofs.Common.{rules, eqb, not}
+use Rattle.std.proofs.lemmas.Fn.{filter_same}
+use Rattle.list_tables.proofs.handles.remove.Goals as goal
+
+pub returns : goal.returns
+returns c = filter_same _ (λ h. not (eqb h.number c.args.number)) _ (λ x b f' called. search rules) _ _ c.retain.ensures.filtered

@@ -1,0 +1,10 @@
+pub mod Apps
+pub mod Classes
+pub mod Given
+pub mod Kept
+pub mod LentReturns
+pub mod LentSeats
+pub mod Openings
+pub mod Reasons
+pub mod SeatLists
+pub mod Shown

@@ -1,0 +1,5 @@
+pub mod Asked
+pub mod Box
+pub mod Classes
+pub mod Inside
+pub mod Lent

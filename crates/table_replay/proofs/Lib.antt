@@ -1,0 +1,10 @@
+mod Nexts
+mod Behind
+mod Entering
+mod Stopping
+mod LineTexts
+mod Judging
+mod Passed
+mod Stepping
+mod Placing
+mod Opening

@@ -1,0 +1,5 @@
+pub mod Apps
+pub mod Reasons
+pub mod Kept
+pub mod Openings
+pub mod Shown
