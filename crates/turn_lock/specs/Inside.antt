@@ -1,5 +1,7 @@
 -- What a seat knows by its place in the table, and which places seats have between turns.
 use Rattle.std.specs.Prelude.{Bool, true, false}
+use Rattle.turn_lock.specs.declared.seat.Rest.{Rest}
+use Rattle.turn_lock.specs.declared.seat.Rest.TheVariants.{Over, Due, Skipped}
 use Rattle.turn_lock.specs.declared.view.View.{View}
 use Rattle.turn_lock.specs.declared.view.Stage.{Stage}
 use Rattle.turn_lock.specs.declared.view.Stage.TheVariants.{Main, Away, Has, Spent}
@@ -25,3 +27,15 @@ known v =
       apps = v.apps;
       ended = v.ended;
     }
+
+-- whether a seat has to sleep before its next turn
+abbrev pub is_due : Rest → Bool
+is_due Over = false
+is_due (Due rang) = true
+is_due (Skipped rang) = false
+
+-- whether it had to, and was kept awake
+abbrev pub is_skipped : Rest → Bool
+is_skipped Over = false
+is_skipped (Due rang) = false
+is_skipped (Skipped rang) = true

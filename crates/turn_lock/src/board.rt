@@ -63,6 +63,22 @@ pub(crate) struct PassedTurn<T: Historied> {
     ghost passed: { place.me.0.stage ≡ Away },
 }
 
+/// How often the bell had rung, modulo 2^32, when a seat heard it in its turn. Only `Board::hear`
+/// makes one, and nobody counts on from it.
+#[derive(Clone, Copy)]
+pub(crate) struct Rang {
+    // The number.
+    count: u32,
+}
+
+/// That a thread slept at the bell, or found that it had rung. Only `Board::sleep_at_bell` makes
+/// one.
+#[derive(Drop)]
+pub(crate) struct Slept {
+    // What it slept at.
+    _rang: Rang,
+}
+
 impl<T: Historied> Board<T> {
     /// A table with this value, and the place of the main seat.
     pub(crate) fn new(alloc: Global, value: T) -> Result<(Board<T>, Place<T>), AllocError>
@@ -246,15 +262,19 @@ impl<T: Historied> Board<T> {
     }
 
     /// How often the bell rang so far, modulo 2^32. A seat that sleeps next asks in its turn.
-    pub(crate) fn bell(&self, place: &Place<T>) -> u32
+    pub(crate) fn hear(&self, place: &Place<T>) -> Rang
         requires served { place.now.me.0.stage ≡ Has }
     {
-        (self.table.shared.peek(BELL) % HALF) as u32
+        Rang {
+            count: (self.table.shared.peek(BELL) % HALF) as u32,
+        }
     }
 
-    /// Sleeps while the bell rang so often, modulo 2^32, until it rings. It may return early.
-    pub(crate) fn sleep_at_bell<R: Wait>(&self, rt: &R, rang: u32) {
-        self.table.shared.park(rt, BELL, rang);
+    /// Sleeps until the bell rings, if it hasn't since it was heard. It may return early. No clause
+    /// sees that the thread parks.
+    pub(crate) fn sleep_at_bell<R: Wait>(&self, rt: &R, rang: Rang) -> Slept {
+        self.table.shared.park(rt, BELL, rang.count);
+        Slept { _rang: rang }
     }
 
     /// Rings the bell, which wakes all seats that sleep at it.

@@ -1,5 +1,5 @@
 //! The lock: a value that goes from seat to seat.
-ghost use Rattle.std.specs.Prelude.{◌≡◌, ℕ, ◌≤◌, ◌<◌, ◌++◌, [], ◌∷◌, length, true, false, All};
+ghost use Rattle.std.specs.Prelude.{◌≡◌, ◌||◌, ℕ, ◌≤◌, ◌<◌, ◌++◌, [], ◌∷◌, length, true, false, All};
 ghost use Rattle.std.specs.Prelude.{Contains, IfOk, Some};
 ghost use mathlib.Core.List.{IsPrefix};
 ghost use Rattle.turn_lock.specs.Views.{entries_of};
@@ -81,6 +81,7 @@ impl<T: Historied> TurnLock<T> {
         ensures main { IsMain main.new self.now.name }
         ensures apps { view_of main.new ≡ with_app (view_of main.old) app }
         ensures seat { IsReady result self.now.name }
+        ensures rested { result.kept_awake ≡ false }
         ensures view { view_of result ≡ seat_view (view_of main.old) app }
     {
         let mut place = main.take_place();
@@ -96,6 +97,7 @@ impl<T: Historied> TurnLock<T> {
     pub fn enter<R: Wait>(&self, rt: &R, seat: &mut Seat<T::Fixed, T::Event>) -> Turn<T>
         requires ready { IsReady seat.old self.now.name }
         ensures out { IsOut seat.new }
+        ensures kept_awake { seat.new.kept_awake ≡ seat.old.kept_awake }
         ensures lock { result.lock ≡ self.now.name }
         ensures found { result.found ≡ result.value }
         ensures opening { Some (T.fixed result.value) ≡ (view_of seat.old).fixed }
@@ -128,24 +130,27 @@ impl<T: Historied> TurnLock<T> {
         requires awaited { T.awaited turn.value ≡ T.awaited turn.found }
         requires no_news { T.awaited turn.value ≡ true → T.news turn.value ≡ false }
         ensures ready { IsReady seat.new self.now.name }
+        ensures rested { seat.new.kept_awake ≡ false }
         ensures view { view_of seat.new ≡ left_view turn.view (T.history turn.value) }
     {
         *seat = Seat::of(self.give_back(turn));
     }
 
     /// Ends the turn of a seat that sleeps next, by [`TurnLock::sleep`], until another seat leaves
-    /// its turn by [`TurnLock::leave_and_wake`]. The value notes that there are sleepers.
+    /// its turn by [`TurnLock::leave_and_wake`]. The value notes that there are sleepers. The turn
+    /// was not begun by a seat that was kept awake: who looks in vain twice slept in between.
     pub fn leave_to_sleep(&self, seat: &mut Seat<T::Fixed, T::Event>, turn: Turn<T>)
         requires out { IsOut seat.old }
         requires lock { turn.lock ≡ self.now.name }
         requires opening { Some (T.fixed turn.value) ≡ turn.view.fixed }
         requires own { AddsOwn turn.view (T.history turn.value) }
         requires awaited { T.awaited turn.value ≡ true }
+        requires slept { seat.old.kept_awake ≡ false }
         ensures seat { IsIn seat.new self.now.name }
         ensures rests { seat.new.rests ≡ true }
         ensures view { view_of seat.new ≡ left_view turn.view (T.history turn.value) }
     {
-        let rang = self.board.bell(&turn.place);
+        let rang = self.board.hear(&turn.place);
         *seat = Seat::sleeper(self.give_back(turn), rang);
     }
 
@@ -160,6 +165,7 @@ impl<T: Historied> TurnLock<T> {
         requires awaited { T.awaited turn.value ≡ false }
         requires news { T.news turn.value ≡ true }
         ensures ready { IsReady seat.new self.now.name }
+        ensures rested { seat.new.kept_awake ≡ false }
         ensures view { view_of seat.new ≡ left_view turn.view (T.history turn.value) }
     {
         let mut place = self.give_back(turn);
@@ -194,21 +200,23 @@ impl<T: Historied> TurnLock<T> {
     pub fn sleep<R: Wait>(&self, rt: &R, seat: &mut Seat<T::Fixed, T::Event>)
         requires seat { IsIn seat.old self.now.name }
         ensures ready { IsReady seat.new self.now.name }
+        ensures rested { seat.new.kept_awake ≡ false }
         ensures view { view_of seat.new ≡ view_of seat.old }
     {
-        if let Some(rang) = seat.take_rest() {
-            self.board.sleep_at_bell(rt, rang);
+        if let Some(rang) = seat.rang() {
+            seat.rested(self.board.sleep_at_bell(rt, rang));
         }
     }
 
     /// Lets a seat that left its last turn to sleep begin a turn without sleeping: for a call that
-    /// isn't a further look, as an application's last one.
+    /// isn't a further look, as an application's last one. This turn can't be left to sleep.
     pub fn stay_awake(&self, seat: &mut Seat<T::Fixed, T::Event>)
         requires seat { IsIn seat.old self.now.name }
         ensures ready { IsReady seat.new self.now.name }
+        ensures kept_awake { seat.new.kept_awake ≡ (seat.old.rests || seat.old.kept_awake) }
         ensures view { view_of seat.new ≡ view_of seat.old }
     {
-        let _ = seat.take_rest();
+        seat.skip_rest();
     }
 
     /// Takes a seat that ends into the main one, which keeps its entries and the longer of what
