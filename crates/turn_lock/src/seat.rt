@@ -126,6 +126,7 @@ impl<F, E> Seat<F, E> {
         ensures knows { known result.me.0 ≡ view_of self.old }
         ensures empty { result.me.1 ≡ [] }
         ensures out { IsOut self.new }
+        ensures kept_awake { self.new.kept_awake ≡ self.old.kept_awake }
         ensures main { (view_of self.old).main ≡ true → result.me.0.stage ≡ Main }
         ensures away { (view_of self.old).main ≡ false → result.me.0.stage ≡ Away }
     {
