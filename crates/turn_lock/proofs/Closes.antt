@@ -1,5 +1,5 @@
 -- What the value of a closed lock is.
-use Rattle.std.proofs.Common.{◌≡◌, ◌≢◌, ℕ, List, map, get_or, true, refl, sym, ap, ◌∙◌, subst, ⊎_elim, All, Contains, Option, Some}
+use Rattle.std.proofs.Common.{◌≡◌, ◌≢◌, Bool, ℕ, List, map, get_or, true, refl, sym, ap, ◌∙◌, subst, ⊎_elim, All, Contains, Option, Some}
 use Rattle.std.proofs.lemmas.List.Elements.{All-map, All-contains}
 use mathlib.Core.Logic.{dite}
 use native.Mathlib.Decide.{ℕ_discrete}

@@ -1,5 +1,5 @@
 -- The steps by which seats come and end keep the rule.
-use Rattle.std.proofs.Common.{◌≡◌, ◌≢◌, ℕ, ◌+◌, ◌<◌, List, [], ◌∷◌, ◌++◌, length, get_or, set, true, refl, sym, ap, ◌∙◌, subst, ⊎_elim, inl, inr, arith, All, Contains, Option, length-set, length-append}
+use Rattle.std.proofs.Common.{◌≡◌, ◌≢◌, Bool, ℕ, ◌+◌, ◌<◌, List, [], ◌∷◌, ◌++◌, length, get_or, set, true, refl, sym, ap, ◌∙◌, subst, ⊎_elim, inl, inr, arith, All, Contains, Option, length-set, length-append}
 use Rattle.std.proofs.lemmas.List.Elements.{All-nil, All-push, Contains-push, Contains-append_left}
 use mathlib.Core.Logic.{dite}
 use native.Mathlib.Decide.{dec_le}
