@@ -2,7 +2,7 @@
 ghost use Rattle.std.specs.Prelude.{◌≡◌, ◌||◌, true, false, [], ◌∷◌, IfNone};
 ghost use Rattle.atomic_table.specs.Seated.{TableId};
 ghost use Rattle.turn_lock.specs.Seats.{IsOut, view_of};
-ghost use Rattle.turn_lock.specs.Inside.{known, is_idle};
+ghost use Rattle.turn_lock.specs.Inside.{known, is_idle, IsOf};
 ghost use Rattle.turn_lock.specs.declared.view.Stage.TheVariants.{Main, Away};
 
 use crate::board::{Rang, Slept};
@@ -39,7 +39,7 @@ pub(crate) enum Rest {
 impl<F, E> Model for Seat<F, E> {
     ghost use Rattle.std.specs.Prelude.{◌≡◌, true, map, All};
     ghost use Rattle.turn_lock.specs.Seats.{SeatView};
-    ghost use Rattle.turn_lock.specs.Inside.{known, is_idle, is_due, is_skipped};
+    ghost use Rattle.turn_lock.specs.Inside.{known, is_idle, is_due, is_skipped, Recalls};
 
     ghost Value = { SeatView F E };
 
@@ -50,7 +50,8 @@ impl<F, E> Model for Seat<F, E> {
       kept_awake = is_skipped s.rest;
     } };
 
-    ghost invariant = { λ s. All (λ v. is_idle v.stage ≡ true) s.badge.views };
+    ghost invariant = { λ s. All (λ v. is_idle v.stage ≡ true) s.badge.views
+        × All (λ v. Recalls s.rest v.heard) s.badge.views };
 }
 
 impl<F, E> Seat<F, E> {
@@ -72,10 +73,11 @@ impl<F, E> Seat<F, E> {
         }
     }
 
-    /// The same, of a seat that sleeps next, until the bell rings again.
+    /// The same, of a seat that sleeps next, until the bell rings again. It heard it in its turn.
     pub(crate) fn sleeper<S>(place: Place<S, View<F, E>>, rang: Rang) -> Seat<F, E>
         requires empty { place.me.1 ≡ [] }
         requires idle { is_idle place.me.0.stage ≡ true }
+        requires heard { IsOf rang place.me.0.heard }
         ensures { result ≡
             record {
               lock = place.table_id;
@@ -103,7 +105,7 @@ impl<F, E> Seat<F, E> {
     }
 
     /// The seat's thread slept, so it may begin a turn.
-    pub(crate) fn rested(&mut self, _slept: Slept)
+    pub(crate) fn take_rest(&mut self, _slept: Slept)
         ensures { self.new ≡ record self.old { rests = false; kept_awake = false } }
     {
         self.rest = Rest::Over;
