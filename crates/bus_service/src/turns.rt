@@ -1,5 +1,5 @@
 //! The two ends of a turn.
-ghost use Rattle.std.specs.Prelude.{◌≡◌, true, Some};
+ghost use Rattle.std.specs.Prelude.{◌≡◌, true, false, Some};
 ghost use Rattle.turn_lock.specs.Seats.{IsOut, IsIn, IsReady, view_of, entered_view, left_view};
 ghost use Rattle.sb_calls.specs.Bags.{AreOneLoan};
 ghost use Rattle.sb_calls.specs.Core.{StandAlone};
@@ -20,6 +20,7 @@ pub(crate) fn begin<'r, R: Wait>(
 ) -> Turn<BoxedCore<'r>>
     requires { IsReady seat.old bus.now }
     ensures out { IsOut seat.new }
+    ensures kept_awake { seat.new.kept_awake ≡ seat.old.kept_awake }
     ensures lock { result.lock ≡ bus.now }
     ensures found { result.found ≡ result.value }
     ensures entered { Entered (view_of seat.old) result.value.core }
@@ -56,7 +57,7 @@ pub(crate) fn finish<'r>(
 }
 
 /// Ends a turn in which an application looked in vain: it made no entry, and sleeps before its next
-/// turn.
+/// turn. If its look before was in vain too, it slept in between.
 pub(crate) fn pause<'r>(
     bus: &Bus<'r>,
     seat: &mut Seat<Opening, NotedCall>,
@@ -66,6 +67,7 @@ pub(crate) fn pause<'r>(
     requires lock { turn.lock ≡ bus.now }
     requires opening { Some (fixed_of turn.value.core) ≡ turn.view.fixed }
     requires none { history_of turn.value.core ≡ turn.view.seen }
+    requires slept { seat.old.kept_awake ≡ false }
     ensures seat { IsIn seat.new bus.now }
     ensures rests { seat.new.rests ≡ true }
     ensures view { view_of seat.new ≡ left_view turn.entry.view
