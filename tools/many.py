@@ -1,4 +1,4 @@
-"""Runs the tests of crates, and many scripts, over one compilation without a proof.
+"""Runs the tests of crates, and many scripts, over one compilation each without a proof.
 
 rt prepares the whole program anew for each run, which takes it longer than a script takes. So the
 scripts go in groups to tests that stand beside those of the crates: each runs its group, several
@@ -9,6 +9,7 @@ import json
 import re
 import subprocess
 import tempfile
+from concurrent.futures import ThreadPoolExecutor
 from pathlib import Path
 
 from gathered import lay_out
@@ -95,28 +96,39 @@ class Outcome:
     """How many tests of crates passed, the answers of the scripts, and whether a test failed; what
     rt said. No test was run where `passed` is None."""
 
-    def __init__(self, said, status, groups):
-        found = RESULT.search(said)
-        self.said, self.is_good = said, status == 0 and bool(found) and found[2] == "0"
+    def __init__(self, runs, groups):
+        found = [RESULT.search(said) for _, said in runs]
+        self.said = "".join(said for _, said in runs)
+        self.is_good = all(status == 0 and it and it[2] == "0" for (status, _), it in zip(runs, found))
         # Of the tests that ended well, those of groups are none of a crate.
-        good = re.findall(r"^test (\S+) \.\.\. ok$", said, re.M)
-        self.passed = len(set(good) - set(groups.names)) if found else None
-        self.answers = groups.answers() if found else None
+        good = re.findall(r"^test (\S+) \.\.\. ok$", self.said, re.M)
+        self.passed = len(set(good) - set(groups.names)) if any(found) else None
+        self.answers = groups.answers() if groups.names and found[-1] else None
 
 
-def try_all(crates, cases, is_told=lambda test: None):
-    """Compiles the tests of these crates as one crate, with these scripts, and runs all. `is_told` is
-    called with each test that begins or ends."""
-    with tempfile.TemporaryDirectory(prefix="fsw-tests-") as folder, tempfile.TemporaryDirectory(prefix="fsw-scripts-") as scripts:
-        groups = Groups(scripts, cases)
-        gathered = list(dict.fromkeys([*crates, *[CRATE] * bool(cases)]))
+def run_tests(crates, groups, is_told):
+    """Compiles the tests of these crates, and of these groups of scripts, as one crate, and runs
+    them: the status, and what rt said."""
+    said = []
+    with tempfile.TemporaryDirectory(prefix="fsw-tests-") as folder:
+        gathered = list(dict.fromkeys([*crates, *[CRATE] * bool(groups.names)]))
         how = dict(cwd=lay_out(folder, NAME, gathered, crates, groups.program()), stdin=subprocess.DEVNULL)
         how.update(stdout=subprocess.PIPE, stderr=subprocess.STDOUT, text=True, errors="replace")
-        said = []
         with subprocess.Popen(["rt", "try", "--test", "--seconds", SECONDS], **how) as rt:
             for line in rt.stdout:
                 said.append(line)
                 found = TEST.match(line)
                 if found:
                     is_told(found[1])
-        return Outcome("".join(said), rt.returncode, groups)
+        return rt.returncode, "".join(said)
+
+
+def try_all(crates, cases, is_told=lambda test: None):
+    """Runs the tests of these crates and these scripts, each over one compilation and side by side,
+    since rt compiles on one processor and runs tests one by one. `is_told` is called with each test
+    that begins or ends."""
+    with tempfile.TemporaryDirectory(prefix="fsw-scripts-") as scripts, ThreadPoolExecutor(2) as pool:
+        groups = Groups(scripts, cases)
+        parts = [(crates, Groups(scripts, []))] * bool(crates) + [([], groups)] * bool(cases)
+        runs = list(pool.map(lambda part: run_tests(*part, is_told), parts))
+        return Outcome(runs, groups)

@@ -2,8 +2,8 @@
 
 The scripts of corpus/ and of examples/, each with the answer that is kept beside it, and the tests
 of all crates. Nothing of it proves anything: `./fsw build` does. With `--proved` the scripts go to
-the program that is built; otherwise they are run over one compilation with the tests, which are
-compiled as one crate. With `--crates` the words behind are crates, and of the tests only theirs are
+the program that is built; otherwise they are run over one compilation, and the tests of all crates
+over another beside it. With `--crates` the words behind are crates, and of the tests only theirs are
 made.
 """
 import os
@@ -113,7 +113,7 @@ def judge(progress, trials, answers):
 
 
 def try_compiled(progress, crates, trials):
-    """Runs the tests of these crates and these scripts over one compilation; how many tests passed."""
+    """Runs the tests of these crates and these scripts; how many tests passed."""
     if not crates and not trials:
         return 0
     begun = []

@@ -8,6 +8,9 @@ use std::marker::Model;
 // How many working buffers the tables have.
 const WORK_BUFFERS: usize = 4;
 
+// How many zeros are copied at a time.
+const PAGE: usize = 4096;
+
 /// The memory that the messages and the tables of a run lie in: three blocks, for the bus's pool,
 /// for the tables' pool, and for the tables' working buffers. It outlives the run, and the next run
 /// may take it again.
@@ -60,9 +63,9 @@ impl Regions {
             }) }
     {
         Ok(Regions {
-            pool: vec![in alloc; 0; cfg.pool as usize]?,
-            tables: vec![in alloc; 0; cfg.tablepool as usize]?,
-            work: vec![in alloc; 0; WORK_BUFFERS * cfg.tablemax as usize]?,
+            pool: zeros(alloc, cfg.pool as usize)?,
+            tables: zeros(alloc, cfg.tablepool as usize)?,
+            work: zeros(alloc, WORK_BUFFERS * cfg.tablemax as usize)?,
         })
     }
 
@@ -78,4 +81,18 @@ impl Regions {
             work: &mut self.work,
         }
     }
+}
+
+// So many zeros, a page at a time: where nothing is optimized, a copy takes far less than a loop
+// over the bytes.
+fn zeros(alloc: Global, count: usize) -> Result<Vec<u8>, AllocError>
+    ensures { IfOk result (λ block. length block.items ≡ count) }
+{
+    let page = [0; PAGE];
+    let mut block = Vec::with_capacity(alloc, count)?;
+    while block.len() < count {
+        let more = usize::min(PAGE, count - block.len());
+        block.extend_from_slice(&page[..more])?;
+    }
+    Ok(block)
 }

@@ -15,7 +15,8 @@
 //!
 //! - A new core has had no call.
 //! - An end is a step of the bus, and before it one of the tables, if the application hasn't ended
-//!   there; or it is refused as the bus's box refuses it, and nothing changes.
+//!   there; or it is refused as the bus's box refuses it, and nothing changes. Its bags are empty
+//!   then, and those of all others stay.
 #![tactic(auto)]
 
 ghost use Rattle.std.specs.Prelude.{◌≡◌, ◌≤◌, ◌<◌, [], replicate, None, IsSome, IfOk, OnErr, box_value};
@@ -30,7 +31,9 @@ ghost use Rattle.tbl_words.specs.declared.history.Call.TheVariants.{End as Table
 ghost use Rattle.sb_plain.specs.Core.{Acts};
 ghost use Rattle.tbl_plain.specs.Core.{Acts as TableActs};
 ghost use Rattle.sb_box.specs.Asked.{unasked_end};
+ghost use Rattle.sb_box.specs.Box.{KeepsOtherBags, bag_of};
 ghost use Rattle.tbl_box.specs.Asked.{unasked as unasked_tables};
+ghost use Rattle.tbl_box.specs.Box.{KeepsOtherBags as KeepsOtherTables, bag_of as table_bag_of};
 
 use fsw_base::Config;
 use sb_box::{Refusal, SbBox};
@@ -166,6 +169,17 @@ impl Core {
             self.new.tables ≡ self.old.tables) }
         ensures bus { IfOk result
             (λ answer. Acts self.old.bus.core self.new.bus.core app End Done) }
+        ensures others { IfOk result (λ answer. KeepsOtherBags self.old.bus self.new.bus app) }
+        ensures empty { IfOk result
+            (λ answer. bag_of self.new.bus app ≡
+            record (bag_of self.old.bus app) { views = []; buffers = [] }) }
+        ensures table_others { IfOk result
+            (λ answer. unasked_tables self.old.tables.core app TableEnd ≡ None →
+            KeepsOtherTables self.old.tables self.new.tables app) }
+        ensures table_empty { IfOk result
+            (λ answer. unasked_tables self.old.tables.core app TableEnd ≡ None →
+            table_bag_of self.new.tables app ≡
+            record (table_bag_of self.old.tables app) { views = [] }) }
     {
         self.bus.may_end(app)?;
         let _ = self.tables.end::<L>(app, blank);
