@@ -32,8 +32,8 @@ impl<'r> SbBox<'r> {
         Ok(caller)
     }
 
-    /// The caller of a call that the bus may be asked. Inlined, it tests what this call asks for, and
-    /// the call isn't made in memory.
+    /// The caller of a call that the bus may be asked. Inlined, it makes the tests of this one call
+    /// alone, and the call isn't made in memory.
     #[inline(always)]
     pub(crate) fn caller_for(&self, app: u32, call: &BusCall<'_>) -> Result<AppNo, Refusal>
         ensures why { result_err result ≡ unasked self.now.core app (call_of call.now) }
