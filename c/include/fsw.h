@@ -193,6 +193,12 @@ struct fsw_class_stats {
     uint32_t free; /* of these, free now */
 };
 
+/* Where the block of a grant lies in its memory pool. */
+struct fsw_pool_block {
+    uint32_t offset; /* bytes from the pool's first one on: a multiple of 8, 16 or more */
+    uint32_t size;   /* its bytes */
+};
+
 /* A filter: an event of this id passes if count AND mask is 0. */
 struct fsw_filter {
     uint16_t id;
@@ -274,6 +280,14 @@ struct fsw_address {
     uint64_t version;  /* how often the table was updated */
 };
 
+/* The figures of a table. */
+struct fsw_table_status {
+    uint64_t version; /* how often it was updated */
+    uint32_t staged;  /* 0: nothing; 1: a value; 2: one that was validated */
+    uint32_t holds;   /* handles, of whichever applications, that hold a version of it */
+    bool loaded;      /* whether it was ever updated */
+};
+
 /* What of the tables is in use. */
 struct fsw_table_use {
     uint32_t tables;  /* tables that have a handle */
@@ -347,6 +361,8 @@ uint32_t fsw_raw_pool_put(struct fsw_core *core, uint32_t app, uint32_t pool, ui
 uint32_t fsw_raw_pool_stats(struct fsw_core *core, uint32_t pool, struct fsw_pool_stats *stats);
 uint32_t fsw_raw_pool_class(struct fsw_core *core, uint32_t pool, uint32_t place,
                             struct fsw_class_stats *stats);
+uint32_t fsw_raw_pool_block(struct fsw_core *core, uint32_t pool, uint64_t grant,
+                            struct fsw_pool_block *block);
 
 uint32_t fsw_raw_register(struct fsw_core *core, uint32_t app, const struct fsw_filter *filters,
                           size_t filters_len);
@@ -380,6 +396,8 @@ uint32_t fsw_raw_table_load(struct fsw_core *core, uint32_t app, uint32_t handle
 uint32_t fsw_raw_table_get_address(struct fsw_core *core, uint32_t app, uint32_t handle,
                                    struct fsw_address *address);
 uint32_t fsw_raw_table_release_address(struct fsw_core *core, uint32_t app, uint32_t handle);
+uint32_t fsw_raw_table_status(struct fsw_core *core, uint32_t app, uint32_t handle,
+                              struct fsw_table_status *figures);
 uint32_t fsw_raw_table_use(struct fsw_core *core, struct fsw_table_use *now);
 
 uint32_t fsw_raw_read_header(const uint8_t *bytes, size_t bytes_len, struct fsw_header *header);
@@ -740,6 +758,19 @@ static inline uint32_t fsw_pool_class(struct fsw_core *core, uint32_t pool, uint
     return core && stats ? fsw_raw_pool_class(core, pool, place, stats) : FSW_ES_BAD_ARGUMENT;
 }
 
+/*
+ * Gives the place of a grant's block in its pool. It stays there until the grant is put back, and
+ * no two blocks that are out overlap.
+ *
+ * FSW_ES_NO_SUCH_POOL; FSW_ES_BUFFER_NOT_IN_POOL and FSW_ES_POOL_BLOCK_INVALID as of fsw_pool_put,
+ * and not counted.
+ */
+static inline uint32_t fsw_pool_block(struct fsw_core *core, uint32_t pool, uint64_t grant,
+                                      struct fsw_pool_block *block)
+{
+    return core && block ? fsw_raw_pool_block(core, pool, grant, block) : FSW_ES_BAD_ARGUMENT;
+}
+
 /* ----------------------------------------------------------------------------------------------
  * Events.
  */
@@ -987,6 +1018,14 @@ static inline uint32_t fsw_table_release_address(struct fsw_core *core, uint32_t
                                                  uint32_t handle)
 {
     return core ? fsw_raw_table_release_address(core, app, handle) : FSW_TBL_BAD_ARGUMENT;
+}
+
+/* Gives the figures of a handle's table. */
+static inline uint32_t fsw_table_status(struct fsw_core *core, uint32_t app, uint32_t handle,
+                                        struct fsw_table_status *figures)
+{
+    return core && figures ? fsw_raw_table_status(core, app, handle, figures)
+                           : FSW_TBL_BAD_ARGUMENT;
 }
 
 /* Gives what of the tables is in use. */

@@ -44,12 +44,14 @@ struct answers {
     uint64_t grant;
     struct fsw_pool_stats stats;
     struct fsw_class_stats of_size;
+    struct fsw_pool_block block;
     struct fsw_log_line line;
     struct fsw_event_counts events;
     struct fsw_counters counters;
     struct fsw_use now, peak;
     struct fsw_bytes bytes;
     struct fsw_address address;
+    struct fsw_table_status status;
     struct fsw_table_use use;
 };
 
@@ -85,6 +87,7 @@ static void closed_pools_and_events(struct answers *to)
     CHECK_STATUS(fsw_pool_put(&core, 1, 1, 1), FSW_CLOSED);
     CHECK_STATUS(fsw_pool_stats(&core, 1, &to->stats), FSW_CLOSED);
     CHECK_STATUS(fsw_pool_class(&core, 1, 0, &to->of_size), FSW_CLOSED);
+    CHECK_STATUS(fsw_pool_block(&core, 1, 1, &to->block), FSW_CLOSED);
     CHECK_STATUS(fsw_register(&core, 1, NULL, 0), FSW_CLOSED);
     CHECK_STATUS(fsw_send_event(&core, 1, 1, FSW_EVENT_DEBUG, NAME("A"), &to->number), FSW_CLOSED);
     CHECK_STATUS(fsw_reset_filter(&core, 1, 1), FSW_CLOSED);
@@ -107,6 +110,7 @@ static void closed_tables(struct answers *to)
     CHECK_STATUS(fsw_table_load(&core, 1, 1, 0, "abcd", 4), FSW_CLOSED);
     CHECK_STATUS(fsw_table_get_address(&core, 1, 1, &to->address), FSW_CLOSED);
     CHECK_STATUS(fsw_table_release_address(&core, 1, 1), FSW_CLOSED);
+    CHECK_STATUS(fsw_table_status(&core, 1, 1, &to->status), FSW_CLOSED);
     CHECK_STATUS(fsw_table_use(&core, &to->use), FSW_CLOSED);
 }
 
@@ -412,6 +416,7 @@ static void pools(void)
     uint64_t grant = 0;
     struct fsw_pool_stats stats;
     struct fsw_class_stats of_size;
+    struct fsw_pool_block block = {0}, other;
     open_small();
     CHECK_STATUS(fsw_pool_create(&core, 1, 23, &pool), FSW_ES_ERR_MEM_BLOCK_SIZE);
     CHECK_STATUS(fsw_pool_create(&core, 1, 257, &pool), FSW_ES_ERR_MEM_BLOCK_SIZE);
@@ -430,6 +435,13 @@ static void pools(void)
     CHECK_STATUS(fsw_pool_put(&core, 2, 0, 1), FSW_ES_NO_SUCH_POOL);
     CHECK_STATUS(fsw_pool_get(&core, 2, pool, 32, &grant), FSW_SUCCESS);
     CHECK(grant == 5);
+    CHECK_STATUS(fsw_pool_block(&core, 0, 1, &block), FSW_ES_NO_SUCH_POOL);
+    CHECK_STATUS(fsw_pool_block(&core, pool, 2, &block), FSW_ES_POOL_BLOCK_INVALID);
+    CHECK_STATUS(fsw_pool_block(&core, pool, 6, &block), FSW_ES_BUFFER_NOT_IN_POOL);
+    CHECK(block.offset == 0 && block.size == 0);
+    CHECK_STATUS(fsw_pool_block(&core, pool, 1, &block), FSW_SUCCESS);
+    CHECK_STATUS(fsw_pool_block(&core, pool, 5, &other), FSW_SUCCESS); /* where grant 2 was */
+    CHECK(block.offset == 16 && other.offset == 64 && block.size == 32 && other.size == 32);
     CHECK_STATUS(fsw_pool_stats(&core, pool, &stats), FSW_SUCCESS);
     CHECK(stats.size == 200 && stats.requests == 5 && stats.errors == 2 && stats.free == 8);
     CHECK_STATUS(fsw_pool_class(&core, pool, 2, &of_size), FSW_SUCCESS);
@@ -570,6 +582,7 @@ static void loads(void)
     uint32_t handle, single;
     struct fsw_address address = {0}, older = {0};
     struct fsw_bytes staged;
+    struct fsw_table_status figures = {0};
     open_small();
     CHECK_STATUS(fsw_table_register(&core, 1, NAME("T"), 4, FSW_TABLE_DOUBLE, &rule, 1, &handle),
                  FSW_SUCCESS);
@@ -589,12 +602,17 @@ static void loads(void)
     CHECK_STATUS(fsw_table_validate(&core, 1, handle), FSW_RULE_FAILED(1));
     CHECK_STATUS(fsw_table_staged(&core, 1, handle, &staged), FSW_SUCCESS);
     CHECK(staged.len == 4 && memcmp(staged.at, bad, 4) == 0);
+    CHECK_STATUS(fsw_table_status(&core, 2, handle, &figures), FSW_TBL_ERR_NO_ACCESS);
+    CHECK_STATUS(fsw_table_status(&core, 1, handle, &figures), FSW_SUCCESS);
+    CHECK(figures.version == 0 && figures.staged == 1 && figures.holds == 0 && !figures.loaded);
     CHECK_STATUS(fsw_table_abort(&core, 1, handle), FSW_SUCCESS);
     CHECK_STATUS(fsw_table_load(&core, 1, handle, 0, bad, 4), FSW_RULE_FAILED(1));
     CHECK_STATUS(fsw_table_load(&core, 1, handle, 0, good, 4), FSW_SUCCESS);
     CHECK_STATUS(fsw_table_get_address(&core, 1, handle, &older), FSW_TBL_INFO_UPDATED);
     CHECK_STATUS(fsw_table_load(&core, 1, handle, 3, "\x09", 1), FSW_SUCCESS);
     CHECK(older.version == 1 && memcmp(older.at, good, 4) == 0); /* held bytes stay */
+    CHECK_STATUS(fsw_table_status(&core, 1, handle, &figures), FSW_SUCCESS);
+    CHECK(figures.version == 2 && figures.staged == 0 && figures.holds == 1 && figures.loaded);
     CHECK_STATUS(fsw_table_load(&core, 1, handle, 0, good, 4),
                  FSW_TBL_INFO_TABLE_LOCKED); /* an older version is held */
     CHECK_STATUS(fsw_table_get_address(&core, 1, handle, &address), FSW_TBL_INFO_UPDATED);

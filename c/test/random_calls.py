@@ -51,6 +51,7 @@ Sent = struct(('number', U64), ('reached', U32))
 Bytes = struct(('at', POINTER), ('len', SIZE))
 Buffer = struct(('at', POINTER), ('len', SIZE), ('number', U64), ('is_out', FLAG))
 Message = struct(('at', POINTER), ('len', SIZE), ('number', U64))
+PoolBlock = struct(('offset', U32), ('size', U32))
 PoolStats = struct(('size', U32), ('requests', U32), ('errors', U32), ('free', U32))
 Filter = struct(('id', U16), ('mask', U16))
 Line = struct(('app', U32), ('id', U32), ('kind', U32), ('text', POINTER), ('text_len', SIZE))
@@ -60,6 +61,7 @@ Counters = struct(*((name, U32) for name in ('nosub', 'send', 'recv', 'create', 
 Use = struct(*((name, U32) for name in ('msgids', 'pipes', 'subs', 'buffers', 'bytes')))
 Rule = struct(('offset', U32), ('low', U8), ('high', U8))
 Address = struct(('at', POINTER), ('len', SIZE), ('version', U64))
+TableStatus = struct(('version', U64), ('staged', U32), ('holds', U32), ('loaded', FLAG))
 TableUse = struct(('tables', U32), ('handles', U32), ('bytes', U32))
 
 
@@ -336,7 +338,12 @@ class Run:
         answer = self.step(self.bus, app, ('pget', pool, size), status, (grant,))
         if not answer or answer[0] != 'number':
             return
-        self.pools[pool - 1][grant.value] = None
+        block, out = PoolBlock(), self.pools[pool - 1]
+        same('a block', self.ask('pool_block', pool, grant, ctypes.byref(block)), 0)
+        fits = block.offset % 8 == 0 and size <= block.size and block.offset + block.size <= POOL_BYTES
+        overlaps = any(block.offset < at + of and at < block.offset + block.size for at, of in out.values())
+        same('where it lies', (fits, overlaps), (True, False))
+        out[grant.value] = (block.offset, block.size)
 
     def pool_put(self, app):
         pool = self.pool_number()
@@ -415,7 +422,12 @@ class Run:
         self.step(self.tables, app, (kind, handle, offset, data), status)
 
     def staged(self, app):
-        handle, found = self.handle_of(app), Bytes()
+        handle, found, figures = self.handle_of(app), Bytes(), TableStatus()
+        status = self.ask('table_status', app, handle, ctypes.byref(figures))
+        answer = self.step(self.tables, app, ('tstat', handle), status)
+        if answer and answer[0] == 'words':
+            told = (figures.version, int(figures.loaded), figures.staged, figures.holds)
+            same('figures of a table', told, answer[1])
         status = self.ask('table_staged', app, handle, ctypes.byref(found))
         if status == 0:
             same('a staged value', ctypes.string_at(found.at, found.len), self.tables.handles[handle].table.staged[0])

@@ -1001,6 +1001,22 @@ uint32_t fsw_raw_pool_class(struct fsw_core *core, uint32_t pool, uint32_t place
     return FSW_SUCCESS;
 }
 
+uint32_t fsw_raw_pool_block(struct fsw_core *core, uint32_t pool, uint64_t grant,
+                            struct fsw_pool_block *block)
+{
+    struct core *c = opened(core);
+    if (!c)
+        return FSW_CLOSED;
+    struct pool *found = pool_at(c, pool);
+    if (!found)
+        return FSW_ES_NO_SUCH_POOL;
+    const struct cut *cut = cut_of(found, grant);
+    if (!cut)
+        return not_out(found, grant);
+    *block = (struct fsw_pool_block){cut->offset, SIZES[cut->class]};
+    return FSW_SUCCESS;
+}
+
 /* ---- Events of applications ---- */
 
 uint32_t fsw_raw_register(struct fsw_core *core, uint32_t app, const struct fsw_filter *filters,
@@ -1583,6 +1599,22 @@ uint32_t fsw_raw_table_release_address(struct fsw_core *core, uint32_t app, uint
     if (!why)
         let_hold_go(found->table, found);
     return why;
+}
+
+uint32_t fsw_raw_table_status(struct fsw_core *core, uint32_t app, uint32_t handle,
+                              struct fsw_table_status *figures)
+{
+    struct handle *found;
+    uint32_t why = own_handle(opened(core), app, handle, &found);
+    if (why)
+        return why;
+    const struct table *table = found->table;
+    *figures = (struct fsw_table_status){
+        .version = table->present->version,
+        .staged = table->staged ? table->staged_state : 0,
+        .holds = table->present->holds + (table->older ? table->older->holds : 0),
+        .loaded = table->present->version > 0};
+    return FSW_SUCCESS;
 }
 
 uint32_t fsw_raw_table_use(struct fsw_core *core, struct fsw_table_use *now)

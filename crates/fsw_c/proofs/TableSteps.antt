@@ -6,7 +6,7 @@ use Rattle.tbl_words.specs.declared.statuses.TblStatus.{TblStatus}
 use Rattle.tbl_words.specs.declared.calls.TblAnswer.{TblAnswer}
 use Rattle.tbl_words.specs.declared.history.Call.{Call}
 use Rattle.tbl_plain.specs.Core.{Acts, HasNextVersion, answer_behind_last}
-use Rattle.tbl_plain.specs.Answers.{done, shared}
+use Rattle.tbl_plain.specs.Answers.{done, shared, plain_figures_told}
 use Rattle.tbl_box.specs.declared.refusal.Refusal.{Refusal}
 use Rattle.tbl_box.specs.Asked.{unasked}
 use Rattle.tbl_box.proofs.Apps.{next-or-none}
@@ -62,6 +62,10 @@ pub if_ok : {T E : Type 0} {P : Type 0} (r : Result T E) → P → IfOk r (λ (x
 if_ok {P = P} (Ok x) holds = holds
 if_ok {P = P} (Err e) holds = tt
 
+pub on_err : {T E : Type 0} {P : Type 0} (r : Result T E) → P → OnErr r P
+on_err {P = P} (Ok x) holds = tt
+on_err {P = P} (Err e) holds = holds
+
 -- both of two facts
 pub both : {T E : Type 0} (P Q : T → Type 0) (r : Result T E) → IfOk r P → IfOk r Q → IfOk r (λ (x : T). P x × Q x)
 both P Q (Ok x) p q = (p, q)
@@ -72,3 +76,6 @@ done-form = record { accepted = λ x. refl; refused = λ s. refl }
 
 pub shared-form : IsForm shared
 shared-form = record { accepted = λ x. refl; refused = λ s. refl }
+
+pub figures-form : IsForm plain_figures_told
+figures-form = record { accepted = λ x. refl; refused = λ s. refl }

@@ -1,7 +1,9 @@
 -- The figures of the bus as C reads them, and the statuses of the calls that only show something.
-use Rattle.std.specs.Prelude.{◌≡◌, ℕ, ◌==◌, nat_lt, length, Option, Some, None, is_some, if◌then◌else◌}
-use Rattle.std.specs.Option.{option_map}
+use Rattle.std.specs.Prelude.{◌≡◌, ℕ, ◌+◌, ◌≤◌, ◌==◌, nat_lt, length, slice_index, Option, Some, None, is_some, if◌then◌else◌}
+use Rattle.std.specs.Option.{option_map, option_map_or}
+use Rattle.std.specs.Result.{result_err}
 use Rattle.fsw_base.specs.declared.config.PoolStats.{PoolStats}
+use Rattle.fsw_base.specs.declared.statuses.EsStatus.{EsStatus}
 use Rattle.fsw_base.specs.declared.statuses.EsStatus.TheVariants.{NoPool}
 use Rattle.fsw_base.specs.Events.{kind_number}
 use Rattle.fsw_base.specs.EventDesk.{Desk}
@@ -10,7 +12,7 @@ use Rattle.es_pool.specs.declared.blocks.ClassStats.{ClassStats}
 use Rattle.housekeeping.specs.declared.in_use.InUse.{InUse}
 use Rattle.housekeeping.specs.Counters.{Counts}
 use Rattle.bus_words.specs.Bus.{pipe_at}
-use Rattle.pool_words.specs.Grants.{is_pool, pool_in}
+use Rattle.pool_words.specs.Grants.{is_pool, pool_in, answer_in, put_answer, class_under}
 use Rattle.sb_box.specs.Classes.{class_figures}
 use Rattle.fsw_core.specs.declared.Core.{Core}
 use Rattle.fsw_c.specs.declared.counters.FswCounters.{FswCounters}
@@ -19,6 +21,7 @@ use Rattle.fsw_c.specs.declared.events.FswEventCounts.{FswEventCounts}
 use Rattle.fsw_c.specs.declared.events.FswLogLine.{FswLogLine}
 use Rattle.fsw_c.specs.declared.pools.FswPoolStats.{FswPoolStats}
 use Rattle.fsw_c.specs.declared.pools.FswClassStats.{FswClassStats}
+use Rattle.fsw_c.specs.declared.pools.FswPoolBlock.{FswPoolBlock}
 use Rattle.fsw_c.specs.Codes.{closed_code}
 use Rattle.fsw_c.specs.BusCodes.{es_code}
 
@@ -112,6 +115,26 @@ class_code None pool place = closed_code
 class_code (Some core) pool place =
     if is_pool core.bus.core.whole.bus.pools pool
     then (if is_some (class_of core pool place) then 0 else 3288334346) else es_code NoPool
+
+-- why a grant's block can't be shown, if it can't
+abbrev pub unshown : Core → ℕ → ℕ → Option EsStatus
+unshown core pool grant =
+    result_err (answer_in core.bus.core.whole.bus.pools pool
+    (put_answer (pool_in core.bus.core.whole.bus.pools pool) grant))
+
+-- the status of a call that shows it
+abbrev pub block_code : Option Core → ℕ → ℕ → ℕ
+block_code None pool grant = closed_code
+block_code (Some core) pool grant = option_map_or es_code (unshown core pool grant) 0
+
+-- the block is of the grant's block size, and lies within the pool
+abbrev pub ShowsBlock : Option Core → ℕ → ℕ → FswPoolBlock → Type 0
+ShowsBlock old pool grant shown =
+    (o : Core) → old ≡ Some o →
+    (shown.offset + shown.size ≤ (pool_in o.bus.core.whole.bus.pools pool).bytes)
+    × (shown.size ≡
+    slice_index (pool_in o.bus.core.whole.bus.pools pool).sizes
+    (class_under (pool_in o.bus.core.whole.bus.pools pool).out grant))
 
 -- the figures are these
 abbrev pub class_shown : ClassStats → FswClassStats

@@ -2,12 +2,14 @@
 use Rattle.std.specs.Prelude.{◌≡◌, ℕ, List, Option, Some, None}
 use Rattle.std.specs.Option.{option_map, option_map_or, option_and_then}
 use Rattle.tbl_words.specs.declared.uses.TblUse.{TblUse}
+use Rattle.tbl_words.specs.declared.calls.TblState.{TblState}
 use Rattle.tbl_words.specs.declared.history.Call.{Call}
 use Rattle.tbl_words.specs.Tables.{State, table_of}
 use Rattle.tbl_words.specs.Machine.{cause}
 use Rattle.tbl_words.specs.Uses.{use_of}
 use Rattle.tbl_box.specs.Asked.{unasked}
 use Rattle.fsw_core.specs.declared.Core.{Core}
+use Rattle.fsw_c.specs.declared.reading.FswTableStatus.{FswTableStatus}
 use Rattle.fsw_c.specs.declared.reading.FswTableUse.{FswTableUse}
 use Rattle.fsw_c.specs.declared.seen.FswBytes.{FswBytes}
 use Rattle.fsw_c.specs.Codes.{closed_code}
@@ -25,6 +27,15 @@ read_code (Some o) app call =
 abbrev pub use_code : Option Core → ℕ
 use_code None = closed_code
 use_code (Some o) = 0
+
+-- the figures of a table, as the tables have them
+abbrev pub state_in : FswTableStatus → TblState
+state_in shown = record {
+  version = shown.version;
+  loaded = shown.loaded;
+  staged = shown.staged;
+  holds = shown.holds;
+}
 
 -- the staged value of a handle's table, if it has one
 abbrev pub staged_value : State → ℕ → Option (List ℕ)

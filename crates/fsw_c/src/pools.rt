@@ -4,7 +4,7 @@ ghost use Rattle.bus_words.specs.declared.history.Call.TheVariants.{PoolCreate, 
 ghost use Rattle.bus_words.specs.declared.calls.BusAnswer.TheVariants.{Number, Pool};
 ghost use Rattle.sb_box.specs.Asked.{unasked};
 ghost use Rattle.fsw_c.specs.BusAnswers.{BusCall, AnyonesCall, AnswersBus};
-ghost use Rattle.fsw_c.specs.Figures.{stats_in, class_of, class_code, class_shown};
+ghost use Rattle.fsw_c.specs.Figures.{stats_in, class_of, class_code, class_shown, block_code, ShowsBlock};
 
 use crate::bus_codes::{ES_BAD_ARGUMENT, code_of_es, code_of_pool_answer, code_of_pool_call};
 use crate::codes::{CLOSED, SUCCESS};
@@ -76,6 +76,16 @@ impl FswClassStats {
             free: class.free,
         }
     }
+}
+
+/// Where the block of a grant lies in its pool.
+#[repr(C)]
+#[derive(Clone, Copy)]
+pub struct FswPoolBlock {
+    /// Where it begins, in bytes from the pool's first byte on.
+    pub offset: u32,
+    /// Its bytes.
+    pub size: u32,
 }
 
 /// Creates a memory pool, and gives its number.
@@ -175,6 +185,34 @@ pub extern "C" fn fsw_raw_pool_stats(
     let answer = it.bus.pool_stats(pool);
     *core = FswCore::open(it);
     stats.put(&answer);
+    code_of_pool_answer(&answer)
+}
+
+/// Shows where the block of a grant lies in its pool.
+#[unsafe(no_mangle)]
+pub extern "C" fn fsw_raw_pool_block(
+    alloc: Global,
+    core: &mut FswCore,
+    pool: u32,
+    grant: u64,
+    block: &mut FswPoolBlock,
+) -> u32
+    ensures status { result ≡ block_code core.old.held.value pool grant }
+    ensures same { core.new.held.value ≡ core.old.held.value }
+    ensures kept { result ≢ 0 → block.new ≡ block.old }
+    ensures shown { result ≡ 0 → ShowsBlock core.old.held.value pool grant block.new }
+{
+    let Some(it) = core.take(alloc) else {
+        return CLOSED;
+    };
+    let answer = it.bus.pool_block(pool, grant);
+    *core = FswCore::open(it);
+    if let Ok(found) = answer {
+        *block = FswPoolBlock {
+            offset: found.offset,
+            size: found.size,
+        };
+    }
     code_of_pool_answer(&answer)
 }
 

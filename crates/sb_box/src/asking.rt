@@ -14,6 +14,7 @@ use sb_plain::is_within;
 
 impl<'r> SbBox<'r> {
     /// The application of a number.
+    #[inline(always)]
     pub(crate) fn caller(&self, app: u32) -> Result<AppNo, Refusal>
         ensures why { result_err result ≡
             (if is_application self.now.core app then None else Some Refusal.NoApplication) }
@@ -31,7 +32,9 @@ impl<'r> SbBox<'r> {
         Ok(caller)
     }
 
-    /// The caller of a call that the bus may be asked.
+    /// The caller of a call that the bus may be asked. Inlined, it makes the tests of this one call
+    /// alone, and the call isn't made in memory.
+    #[inline(always)]
     pub(crate) fn caller_for(&self, app: u32, call: &BusCall<'_>) -> Result<AppNo, Refusal>
         ensures why { result_err result ≡ unasked self.now.core app (call_of call.now) }
         ensures value { IfOk result (λ caller. caller ≡ app) }
