@@ -146,14 +146,15 @@ fn turns_until_an_entry<'r, B: LockName, R: Wait>(
 ) -> u32
     requires lock { lock.now.name ≡ B.name }
     requires seat { IsReady seat B.name }
+    requires rested { seat.kept_awake ≡ false }
 {
     let mut turns = 0_u32;
     for _ in rt.forever() {
         turns = turns.saturating_add(1);
-        lock.sleep(rt, &mut seat);
         if finds_an_entry(rt, lock, &mut seat) {
             return turns;
         }
+        lock.sleep(rt, &mut seat);
     }
     unreachable!()
 }
@@ -198,13 +199,13 @@ fn turns_beside_an_entry<'r, B: LockName + Send + Sync, R: Threads + Wait + Cloc
     two: Seat<usize, u8>,
 ) -> u32
     requires lock { lock.now.name ≡ B.name }
-    requires one { IsReady one B.name }
+    requires one { IsReady one B.name × (one.kept_awake ≡ false) }
     requires two { IsReady two B.name × ((view_of two).app ≡ 2) }
 {
     let (turns, _) = join(
         rt,
         move || -> u32
-            requires { (lock.now.name ≡ B.name) × IsReady one B.name }
+            requires { (lock.now.name ≡ B.name) × IsReady one B.name × (one.kept_awake ≡ false) }
         { turns_until_an_entry::<B, _>(rt, lock, one) },
         move ||
             requires { (lock.now.name ≡ B.name) × IsReady two B.name × ((view_of two).app ≡ 2) }
