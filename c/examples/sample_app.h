@@ -5,8 +5,8 @@
  *     Command (SAMPLE_APP_CMD_MID)   Function code   Argument            Effect
  *     NOOP                           0               none                an event
  *     RESET_COUNTERS                 1               none                both counters are 0
- *     PROCESS                        2               none                the table's sum is worked
- * out DISPLAY_PARAM                  3               a number, a text    an event shows them
+ *     PROCESS                        2               none                the table is added up
+ *     DISPLAY_PARAM                  3               a number, a text    an event shows them
  *     LOAD_TABLE                     4               a file's name       the table is loaded of it
  *
  * Each accepted command but RESET_COUNTERS counts in CommandCounter, each other one in
