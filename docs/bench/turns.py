@@ -5,7 +5,8 @@
 
 It prints microseconds a round, by the clock and of processors: of plain_bus, which is compiled here, of the built cost_port, and
 of further programs that take the same words, such as cost_port over another lock. They run in turn. Of N runs each (9, where it
-isn't given) the least counts, that of a longer run less that of a shorter one."""
+isn't given) the least counts, that of a longer run less that of a shorter one.
+"""
 import argparse
 import os
 import re
