@@ -9,7 +9,7 @@ use Rattle.bus_words.proofs.Owners.{AreOwned-after, AreHanded-after, none_left, 
 use Rattle.bus_words.proofs.Steps.{length-standings}
 use Rattle.tbl_words.proofs.Ends.{ends_leave_nothing}
 use Rattle.tbl_words.proofs.Orders.{tables_have_handles}
-use Rattle.app_script.specs.Script.{ScriptText, app_at}
+use Rattle.app_script.specs.Script.{Application, ScriptText, app_at}
 use Rattle.script_runs.specs.Histories.{Histories}
 use Rattle.script_runs.specs.TableTrace.{first_handles, own_table_entries}
 use Rattle.script_runs.specs.Trace.{first_registers, own_entries}
@@ -18,10 +18,15 @@ use Rattle.script_runs.proofs.EndsCome.{HasEnd, HasTableEnd, trace-ends, table_t
 use Rattle.bridge_plan.specs.Plan.{PlanText, bridge_of}
 use Rattle.bridge_runs.specs.Bridge.{given_by, forwarding}
 use Rattle.bridge_runs.specs.Bridged.{IsBridged}
-use Rattle.bridge_runs.specs.Lefts.{messages_in, messages_by, given_alone, SideHoldsNothing, sends_in}
+use Rattle.bridge_runs.specs.Lefts.{messages_in, messages_by, given_alone, SideHoldsNothing, sends_in, brought, bytes_of}
 use Rattle.bridge_runs.specs.Sides.{side_apps, AreLegal, MergesBeside}
-use Rattle.bridge_plan.specs.Sends.{sends_of}
-use Rattle.bridge_runs.proofs.LineSends.{sends_within}
+use Rattle.bridge_plan.specs.Sends.{sends_of, sent_from}
+use Rattle.script_settings.specs.Accounts.{no_calls}
+use Rattle.bridge_runs.proofs.Brought.{own-grows}
+use Rattle.bridge_runs.proofs.BytesGiven.{bytes_alone}
+use Rattle.bridge_runs.proofs.LineBytes.{none_brought, own_bytes}
+use Rattle.bridge_runs.proofs.LineSends.{bridge_sends, sends_beside, sends_within}
+use Rattle.bridge_runs.proofs.Weights.{all_within, most_of}
 use Rattle.bridge_runs.proofs.FewGiven.{few_alone}
 use Rattle.bridge_runs.proofs.BridgeEnds.{ends_on_one, ends_on_two, ends_at_tables}
 
@@ -52,6 +57,46 @@ few plan one two bridged =
 pub within_lines : (plan : PlanText) (one two : Histories) → IsBridged plan one two → length (messages_by (bridge_of plan.two) two.bus) ≤ (sends_of plan.one.apps).lines
 within_lines plan one two bridged =
     omega (arith, few plan one two bridged, sends_within plan bridged.pipe one.bus bridged.merges_on_one.each bridged.merges_on_one.nobody_else bridged.from)
+
+-- nor than these lines' charges in bytes
+most_bytes : (apps : List Application) → most_of (λ e. brought e.call e.answer) (λ app. (sent_from no_calls app.lines).bytes) apps ≡ (sends_of apps).bytes
+most_bytes [] = refl
+most_bytes (app ∷ apps) = ap (λ n. (sent_from no_calls app.lines).bytes + n) (most_bytes apps)
+
+-- of any side 1 on which one application more sends nothing
+pub bytes_beside : (plan : PlanText) (p : ℕ) (one : Histories) → AreLegal plan.one one → MergesBeside plan.one one → sends_in (own_entries (bridge_of plan.one) one.bus) ≡ 0
+    → bytes_of (given_by plan.one p one.bus) ≤ (sends_of plan.one.apps).bytes
+bytes_beside plan p one legal merges none =
+    let each = all_within (λ e. brought e.call e.answer) (λ app. (sent_from no_calls app.lines).bytes) plan.one.apps one.bus merges.nobody_else
+    (λ app first last. own_bytes (app_at plan.one app).lines (own_entries app one.bus) (own-grows plan.one.limits (side_apps plan.one) app one.bus legal.bus) (merges.each app first last)) in
+    omega (
+      arith,
+      ap (λ messages. bytes_of (map (λ (received : Received). received.message) messages)) (stands_alone plan.one.limits (side_apps plan.one) p one.bus legal.bus),
+      bytes_alone plan.one.limits (side_apps plan.one) p one.bus legal.bus,
+      each,
+      most_bytes plan.one.apps,
+      none_brought (own_entries (bridge_of plan.one) one.bus) none,
+    )
+
+pub lines_beside : (plan : PlanText) (p : ℕ) (one : Histories) → AreLegal plan.one one → MergesBeside plan.one one → sends_in (own_entries (bridge_of plan.one) one.bus) ≡ 0
+    → length (given_by plan.one p one.bus) ≤ (sends_of plan.one.apps).lines
+lines_beside plan p one legal merges none =
+    let apps = side_apps plan.one in
+    omega (
+      arith,
+      ap (λ messages. length (map (λ (received : Received). received.message) messages)) (stands_alone plan.one.limits apps p one.bus legal.bus),
+      length-map (λ (received : Received). received.message) (solo_receipts unmade (cut plan.one.limits apps p one.bus)),
+      few_alone plan.one.limits apps p one.bus,
+      sends_beside plan one.bus merges.each merges.nobody_else none,
+    )
+
+pub within_bytes : (plan : PlanText) (one two : Histories) → IsBridged plan one two → bytes_of (messages_by (bridge_of plan.two) two.bus) ≤ (sends_of plan.one.apps).bytes
+within_bytes plan one two bridged =
+    omega (
+      arith,
+      ap bytes_of (order plan one two bridged),
+      bytes_beside plan bridged.pipe one bridged.legal_on_one bridged.merges_on_one (bridge_sends plan bridged.pipe one.bus bridged.from),
+    )
 
 -- ---- nothing is left
 
