@@ -65,7 +65,7 @@ waiting_not_ended pipe h = cc h
 
 -- the bus once a call so answered is told and counted
 abbrev after_it : Limits → List Entry → State → ℕ → Call → BusAnswer × State → State
-after_it limits history s app call made = (recorded (reads_after limits history) limits s app call made).1
+after_it limits history s app call made = (recorded limits s app call made).1
 
 -- what is told and counted is no matter here
 settles-recorded : (limits : Limits) (history : List Entry) (s : State) (app : ℕ) (call : Call) (made : BusAnswer × State) (waits : Option ℕ) → Settles app made.0 made.1 waits →

@@ -169,73 +169,10 @@ accepts_alike reads other limits s app End same ways = refl
 pub id-packet : (limits : Limits) (s : State) → message_id (packet_in limits s) ≡ housekeeping_id
 id-packet limits s = message_id-housekeeping_packet s.statistics.counts (in_use limits s)
 
--- what the bus tells of a send is the same
-told_alike : (reads other : Reads) (s : State) (id app number asked : ℕ) (bytes : List ℕ) (inc : Bool) → AreAlike reads other s → HaveWays s → message_id bytes ≡ id →
-    sent_events s id (record { sender = app; number = number; asked = asked; message = stamped reads bytes inc })
-    ≡ sent_events s id (record { sender = app; number = number; asked = asked; message = stamped other bytes inc })
-told_alike reads other s id app number asked bytes inc same ways named = by_route (route s.subscriptions id) refl
-  where
-    stamp : (counts : Bool) → has_route s.routed id ≡ true → stamped reads bytes counts ≡ stamped other bytes counts
-    stamp true there = ap (with_count bytes) (same.next (message_id bytes) (ap (has_route s.routed) named ∙ there))
-    stamp false there = refl
-
-    by_route : (subs : List Subscription) → route s.subscriptions id ≡ subs →
-        send_events id (record { sender = app; number = number; asked = asked; message = stamped reads bytes inc }) subs s.pipes
-        ≡ send_events id (record { sender = app; number = number; asked = asked; message = stamped other bytes inc }) subs s.pipes
-    by_route [] is = refl
-    by_route (first ∷ more) is =
-        ap (λ m. send_events id (record { sender = app; number = number; asked = asked; message = m }) (first ∷ more) s.pipes)
-        (stamp inc (way_of s.routed id s.subscriptions first more ways is))
-
--- and so is what it tells of each call
-events_alike : (reads other : Reads) (limits : Limits) (s : State) (app : ℕ) (call : Call) (answer : BusAnswer) → AreAlike reads other s → HaveWays s →
-    call_events limits reads s app call answer ≡ call_events limits other s app call answer
-unfolding call_events
-events_alike reads other limits s app (Create depth name) answer same ways = refl
-events_alike reads other limits s app (Delete pipe) answer same ways = refl
-events_alike reads other limits s app (SetOpts pipe bits) answer same ways = refl
-events_alike reads other limits s app (GetOpts pipe) answer same ways = refl
-events_alike reads other limits s app (Find name) answer same ways = refl
-events_alike reads other limits s app (PipeName pipe) answer same ways = refl
-events_alike reads other limits s app (Subscribe id pipe limit scope) answer same ways = refl
-events_alike reads other limits s app (Unsubscribe id pipe) answer same ways = refl
-events_alike reads other limits s app (Transmit bytes inc) answer same ways =
-    ap (unless_refused answer) (told_alike reads other s (message_id bytes) app (s.numbers_given + 1) (length bytes) bytes inc same ways refl)
-events_alike reads other limits s app (Receive pipe) answer same ways = refl
-events_alike reads other limits s app (Pend pipe) answer same ways = refl
-events_alike reads other limits s app (Look pipe) answer same ways = refl
-events_alike reads other limits s app (Allocate size) answer same ways = refl
-events_alike reads other limits s app (TransmitBuffer buf bytes inc) answer same ways =
-    ap (unless_refused answer) (told_alike reads other s (message_id bytes) app buf (unsent_size s.unsent app buf) (front_of bytes) inc same ways (id-front bytes))
-events_alike reads other limits s app (Release buf) answer same ways = refl
-events_alike reads other limits s app (PoolCreate bytes) answer same ways = refl
-events_alike reads other limits s app (PoolGet pool size) answer same ways = refl
-events_alike reads other limits s app (PoolPut pool grant) answer same ways = refl
-events_alike reads other limits s app (PoolFigures pool) answer same ways = refl
-events_alike reads other limits s app (Register filters) answer same ways = refl
-events_alike reads other limits s app (SendEvent id kind text) answer same ways = refl
-events_alike reads other limits s app (ResetFilter id) answer same ways = refl
-events_alike reads other limits s app (LogMode mode) answer same ways = refl
-events_alike reads other limits s app ClearLog answer same ways = refl
-events_alike reads other limits s app Housekeeping answer same ways =
-    ap (unless_refused answer)
-    (told_alike reads other s housekeeping_id app (s.numbers_given + 1) (length (packet_in limits s)) (packet_in limits s) true same ways (id-packet limits s))
-events_alike reads other limits s app Figures answer same ways = refl
-events_alike reads other limits s app End answer same ways = refl
-
--- so what is told and counted is the same
-recorded_alike : (reads other : Reads) (limits : Limits) (s : State) (app : ℕ) (call : Call) (made : BusAnswer × State) → AreAlike reads other s → HaveWays s →
-    recorded reads limits s app call made ≡ recorded other limits s app call made
-recorded_alike reads other limits s app call made same ways =
-    ap (λ (events : List ServiceEvent).
-    (made.0, record made.1 { events = desk_by s.events app call events; statistics = statistics_by s.statistics call made.0 events (in_use limits made.1) }))
-    (events_alike reads other limits s app call made.0 same ways)
-
 pub steps_alike : (reads other : Reads) (limits : Limits) (s : State) (app : ℕ) (call : Call) → AreAlike reads other s → HaveWays s →
     step_with reads limits s app call ≡ step_with other limits s app call
 steps_alike reads other limits s app call same ways =
-    ap (recorded reads limits s app call) (by_cause (cause limits s app call))
-    ∙ recorded_alike reads other limits s app call (decided_with other limits s app call (cause limits s app call)) same ways
+    ap (recorded limits s app call) (by_cause (cause limits s app call))
   where
     by_cause : (why : Option Refusal) → decided_with reads limits s app call why ≡ decided_with other limits s app call why
     by_cause (Some why) = refl

@@ -30,7 +30,7 @@ module _ (old mid : Played) (app : ℕ) (call : Call) (answer : BusAnswer) (even
   abbrev all : BusAnswer × Whole → BusAnswer × Whole
   all made =
       let s = old.whole.bus in
-      out old.limits (call_events old.limits (reads_in old.whole) s app call made.0) s.events s.statistics made
+      out old.limits (call_events s app call made.0) s.events s.statistics made
 
   -- the state with the desk changed
   abbrev served : Played

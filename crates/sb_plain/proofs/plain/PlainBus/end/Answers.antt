@@ -47,7 +47,7 @@ returns-clause-does g c =
     let told : Recordings = record a.records { events = unregistered a.records.events c.args.app } in
     acts_seen a next acts c.end.new.self c.args.self.now c.args.app End Done c.self.view_is
     (ended_made a acts next c.end.new.self c.args.app ends left out c.end.ensures.after) told c.see.new.records
-    (ended_left (limits_of a.config) (reads_in w) w.bus c.args.app Done (means (record a { activities = acts; store = next; pools = c.end.new.self })).bus)
+    (ended_left (limits_of a.config) w.bus c.args.app Done (means (record a { activities = acts; store = next; pools = c.end.new.self })).bus)
     (c.see.ensures.seen ∙ ap (λ r. peaks_raised r (in_use_at next)) c.unregister.ensures) order.pool c.see.ensures.held
 
 pub returns-clause-empty : goal.returns-clause-empty

@@ -13,4 +13,4 @@ returns-clause-does c =
     let a = c.self.inside in
     let w = means a in
     acts_from a a.store a.activities a.pools c.args.self.now c.args.app (Register c.args.filters.now) Done c.self.view_is refl c.register.new.self
-    (registered_left (limits_of a.config) (reads_in w) w.bus c.args.app c.args.filters.now Done w.bus c.self.invariant.covered ∙ sym c.register.ensures)
+    (registered_left (limits_of a.config) w.bus c.args.app c.args.filters.now Done w.bus c.self.invariant.covered ∙ sym c.register.ensures)

@@ -14,4 +14,4 @@ returns-clause-does c =
     let a = c.self.inside in
     let w = means a in
     acts_from a a.store a.activities a.pools c.args.self.now c.args.app (ResetFilter c.args.id) (event_told c.reset_filter.result) c.self.view_is (reset_made a c.args.app c.args.id c.reset_filter.result c.reset_filter.ensures.refusal) c.reset_filter.new.self
-    (filter_reset_left (limits_of a.config) (reads_in w) w.bus c.args.app c.args.id (event_told c.reset_filter.result) w.bus c.self.invariant.covered ∙ sym c.reset_filter.ensures.records)
+    (filter_reset_left (limits_of a.config) w.bus c.args.app c.args.id (event_told c.reset_filter.result) w.bus c.self.invariant.covered ∙ sym c.reset_filter.ensures.records)

@@ -13,4 +13,4 @@ returns-clause-does c =
     let a = c.self.inside in
     let w = means a in
     acts_from a a.store a.activities a.pools c.args.self.now c.args.app (LogMode c.args.mode) Done c.self.view_is refl c.set_log_mode.new.self
-    (mode_set_left (limits_of a.config) (reads_in w) w.bus c.args.app c.args.mode Done w.bus c.self.invariant.covered ∙ sym c.set_log_mode.ensures)
+    (mode_set_left (limits_of a.config) w.bus c.args.app c.args.mode Done w.bus c.self.invariant.covered ∙ sym c.set_log_mode.ensures)

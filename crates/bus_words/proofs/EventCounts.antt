@@ -1,0 +1,159 @@
+-- What the event desk counts as refused are the entries whose event or reset was refused.
+use Rattle.std.proofs.Common.{◌≡◌, ℕ, ◌+◌, ◌-◌, ◌^◌, min, Bool, true, false, cond, List, [], ◌∷◌, ◌++◌, Option, Some, None, refl, ap, sym, ◌∙◌, subst, zero-add, true≢false, arith}
+use Rattle.std.specs.Prelude.{count_by, is_some}
+use Rattle.fsw_base.specs.Limits.{Limits}
+use Rattle.fsw_base.specs.declared.events.EventKind.{EventKind}
+use Rattle.fsw_base.specs.declared.statuses.EvsStatus.{EvsStatus}
+use Rattle.fsw_base.specs.declared.statuses.EvsStatus.TheVariants.{AppNotRegistered, EvtNotRegistered}
+use Rattle.fsw_base.specs.EventFilters.{EventFilter, passes, has_filter, restarted}
+use Rattle.fsw_base.specs.EventDesk.{Desk, one_more_if, filters_of, with_filters, passed, tested, refused_once, sent, send_refusal, reset, reset_refusal}
+use Rattle.bus_events.specs.declared.event.ServiceEvent.{ServiceEvent}
+use Rattle.bus_events.specs.Events.{served_event, served_all}
+use Rattle.bus_words.specs.declared.calls.BusAnswer.{BusAnswer}
+use Rattle.bus_words.specs.declared.history.Call.{Call}
+use Rattle.bus_words.specs.declared.history.Call.TheVariants.{Create, Delete, SetOpts, GetOpts, Find, PipeName, Subscribe, Unsubscribe, Transmit, Receive, Pend, Look, Allocate, TransmitBuffer, Release, PoolCreate, PoolGet, PoolPut, PoolFigures, Register, SendEvent, ResetFilter, LogMode, ClearLog, Housekeeping, Figures, End}
+use Rattle.bus_words.specs.declared.history.Entry.{Entry}
+use Rattle.bus_words.specs.Bus.{State, opening}
+use Rattle.bus_words.specs.Events.{call_events, desk_by}
+use Rattle.bus_words.specs.Machine.{LegalFrom, IsLegal, by_events, cause, decided, decided_with, reads_after, state_after, state_from, step}
+use Rattle.bus_words.specs.Readings.{is_refused_event, count_of}
+use Rattle.bus_words.proofs.Readings.{count-more}
+
+-- The desk. --
+
+-- events that are told refuse nothing
+told-refused : (desk : Desk) (events : List ServiceEvent) → (served_all desk events).refused ≡ desk.refused
+unfolding passed
+told-refused desk [] = refl
+told-refused desk (event ∷ events) = told-refused (served_event desk event) events
+
+-- an event is counted as refused where it has a refusal
+event-refused : (desk : Desk) (app id : ℕ) (kind : EventKind) (text : List ℕ) →
+    (sent desk app id kind text).refused ≡ one_more_if (is_some (send_refusal desk app)) desk.refused
+unfolding sent passed
+event-refused desk app id kind text = by_filters (filters_of desk app) refl
+  where
+    by_test : (b : Bool) (one other : Desk) → one.refused ≡ desk.refused → other.refused ≡ desk.refused → (cond {A = Desk} b one other).refused ≡ desk.refused
+    by_test true one other here there = here
+    by_test false one other here there = there
+
+    by_filters : (o : Option (List EventFilter)) → filters_of desk app ≡ o →
+        (sent desk app id kind text).refused ≡ one_more_if (is_some (send_refusal desk app)) desk.refused
+    by_filters None is = rw (is) refl
+    by_filters (Some filters) is =
+        rw (is)
+        (by_test (passes filters id) (passed (tested desk app filters id) app id kind text)
+        (record (tested desk app filters id) { filtered = min (desk.filtered + 1) 4294967295 }) refl refl)
+
+-- so is a reset
+reset-refused : (desk : Desk) (app id : ℕ) → (reset desk app id).refused ≡ one_more_if (is_some (reset_refusal desk app id)) desk.refused
+unfolding reset
+reset-refused desk app id = by_filters (filters_of desk app) refl
+  where
+    by_test : (b : Bool) (filters : List EventFilter) →
+        (cond {A = Desk} b (with_filters desk app (Some (restarted filters id))) (refused_once desk)).refused
+        ≡ one_more_if (is_some (cond {A = Option EvsStatus} b None (Some EvtNotRegistered))) desk.refused
+    by_test true filters = refl
+    by_test false filters = refl
+
+    by_filters : (o : Option (List EventFilter)) → filters_of desk app ≡ o → (reset desk app id).refused ≡ one_more_if (is_some (reset_refusal desk app id)) desk.refused
+    by_filters None is = rw (is) refl
+    by_filters (Some filters) is = rw (is) (by_test (has_filter filters id) filters)
+
+-- Calls. --
+
+-- whether a call sends an event or resets a filter
+abbrev may_be_refused : Call → Bool
+may_be_refused (SendEvent id kind text) = true
+may_be_refused (ResetFilter id) = true
+may_be_refused call = false
+
+-- every other call leaves the count
+others-refused : (desk : Desk) (app : ℕ) (call : Call) (events : List ServiceEvent) (answer : BusAnswer) → may_be_refused call ≡ false →
+    (desk_by desk app call events).refused ≡ one_more_if (is_refused_event call answer) desk.refused
+unfolding desk_by
+others-refused desk app (Create depth name) events answer other = told-refused desk events
+others-refused desk app (Delete pipe) events answer other = told-refused desk events
+others-refused desk app (SetOpts pipe bits) events answer other = told-refused desk events
+others-refused desk app (GetOpts pipe) events answer other = told-refused desk events
+others-refused desk app (Find name) events answer other = told-refused desk events
+others-refused desk app (PipeName pipe) events answer other = told-refused desk events
+others-refused desk app (Subscribe id pipe limit scope) events answer other = told-refused desk events
+others-refused desk app (Unsubscribe id pipe) events answer other = told-refused desk events
+others-refused desk app (Transmit bytes inc) events answer other = told-refused desk events
+others-refused desk app (Receive pipe) events answer other = told-refused desk events
+others-refused desk app (Pend pipe) events answer other = told-refused desk events
+others-refused desk app (Look pipe) events answer other = told-refused desk events
+others-refused desk app (Allocate size) events answer other = told-refused desk events
+others-refused desk app (TransmitBuffer buf bytes inc) events answer other = told-refused desk events
+others-refused desk app (Release buf) events answer other = told-refused desk events
+others-refused desk app (PoolCreate bytes) events answer other = told-refused desk events
+others-refused desk app (PoolGet pool size) events answer other = told-refused desk events
+others-refused desk app (PoolPut pool grant) events answer other = told-refused desk events
+others-refused desk app (PoolFigures pool) events answer other = told-refused desk events
+others-refused desk app (Register filters) events answer other = refl
+others-refused desk app (SendEvent id kind text) events answer other = absurd (true≢false other)
+others-refused desk app (ResetFilter id) events answer other = absurd (true≢false other)
+others-refused desk app (LogMode mode) events answer other = refl
+others-refused desk app ClearLog events answer other = refl
+others-refused desk app Housekeeping events answer other = told-refused desk events
+others-refused desk app Figures events answer other = told-refused desk events
+others-refused desk app End events answer other = refl
+
+step-refused : (limits : Limits) (history : List Entry) (s : State) (app : ℕ) (call : Call) →
+    ((step limits history s app call).1).events.refused ≡ one_more_if (is_refused_event call (step limits history s app call).0) s.events.refused
+step-refused limits history s app call = by_call call (may_be_refused call) refl
+  where
+    Counts : Call → Type 0
+    Counts call = ((step limits history s app call).1).events.refused ≡ one_more_if (is_refused_event call (step limits history s app call).0) s.events.refused
+
+    event-answered : (id : ℕ) (kind : EventKind) (text : List ℕ) (o : Option EvsStatus) →
+        is_some o ≡ is_refused_event (SendEvent id kind text) ((decided_with (reads_after limits history) limits s app (SendEvent id kind text) (by_events o)).0)
+    event-answered id kind text None = refl
+    event-answered id kind text (Some status) = refl
+
+    reset-answered : (id : ℕ) (o : Option EvsStatus) →
+        is_some o ≡ is_refused_event (ResetFilter id) ((decided_with (reads_after limits history) limits s app (ResetFilter id) (by_events o)).0)
+    reset-answered id None = refl
+    reset-answered id (Some status) = refl
+
+    refusable : (call : Call) → may_be_refused call ≡ true → Counts call
+    unfolding desk_by
+    refusable (SendEvent id kind text) is =
+        event-refused s.events app id kind text ∙ ap (λ b. one_more_if b s.events.refused) (event-answered id kind text (send_refusal s.events app))
+    refusable (ResetFilter id) is =
+        reset-refused s.events app id ∙ ap (λ b. one_more_if b s.events.refused) (reset-answered id (reset_refusal s.events app id))
+    refusable call is = absurd (true≢false (sym is))
+
+    by_call : (call : Call) (b : Bool) → may_be_refused call ≡ b → Counts call
+    by_call call true is = refusable call is
+    by_call call false is =
+        let made = decided limits history s app call (cause limits s app call) in
+        others-refused s.events app call (call_events s app call made.0) made.0 is
+
+-- Histories. --
+
+-- a count that was so many, at most the largest, and one more where the test holds
+raised-more : (b : Bool) (n : ℕ) → one_more_if b (min n (2 ^ 32 - 1)) ≡ min (n + cond {A = ℕ} b 1 0) (2 ^ 32 - 1)
+raised-more true n = omega arith
+raised-more false n = omega arith
+
+refused-from : (limits : Limits) (history : List Entry) (s : State) (es : List Entry) (n : ℕ) → LegalFrom limits history s es → s.events.refused ≡ min n (2 ^ 32 - 1) →
+    (state_from limits history s es).events.refused ≡ min (n + count_by (λ e. is_refused_event e.call e.answer) es) (2 ^ 32 - 1)
+refused-from limits history s [] n legal counts = counts ∙ ap (λ k. min k (2 ^ 32 - 1)) (omega arith)
+refused-from limits history s (e ∷ es) n legal counts =
+    let next = (step limits history s e.app e.call).1 in
+    let refused = is_refused_event e.call e.answer in
+    refused-from limits (history ++ e ∷ []) next es (n + cond {A = ℕ} refused 1 0) legal.4
+    (step-refused limits history s e.app e.call
+    ∙ ap (λ a. one_more_if (is_refused_event e.call a) s.events.refused) (sym legal.1)
+    ∙ ap (one_more_if refused) counts
+    ∙ raised-more refused n)
+    ∙ ap (λ k. min k (2 ^ 32 - 1)) (omega (arith, count-more (λ x. is_refused_event x.call x.answer) e es))
+
+-- after every legal history
+pub refusals_are_read : (limits : Limits) (apps : ℕ) (history : List Entry) → IsLegal limits apps history →
+    (state_after limits apps history).events.refused ≡ count_of is_refused_event history
+refusals_are_read limits apps history legal =
+    refused-from limits [] (opening limits apps) history 0 legal refl
+    ∙ ap (λ n. min n (2 ^ 32 - 1)) (zero-add (count_by (λ e. is_refused_event e.call e.answer) history))
