@@ -11,7 +11,7 @@ use Rattle.bus_words.specs.declared.history.Call.TheVariants as calls
 use Rattle.bus_words.specs.declared.history.Entry.{Entry}
 use Rattle.bus_words.specs.Bus.{State, Standing, Active, Waiting, Ended, Sending, Subscription, standing_of, with_standing, is_empty, others_idle, is_subscribed, route}
 use Rattle.bus_words.specs.Refusals.{Refusal, OfBus, OfPools, OfEvents}
-use Rattle.bus_words.specs.Machine.{step, cause, decided, recorded, reads_after, refused_state, buffer_gone, sent_along, passed_along, packet_in, received}
+use Rattle.bus_words.specs.Machine.{step, cause, decided, recorded, refused_state, buffer_gone, sent_along, passed_along, packet_in, received}
 use Rattle.script_lines.specs.declared.line.Line.{Line}
 use Rattle.script_lines.specs.declared.line.Line.TheVariants.{Create, Delete, SetOpts, GetOpts, Find, PipeName, Subscribe, Unsubscribe, Send, SendRaw, Receive, Pend, Allocate, TransmitBuffer, Release, PoolCreate, PoolGet, PoolPut, PoolFigures, Register, SendEvent, ResetFilter, LogMode, ClearLog, Housekeeping, Figures}
 use Rattle.script_runs.specs.LineCalls.{line_call_of}

@@ -14,7 +14,6 @@ use Rattle.fsw_base.specs.Limits.{Limits}
 use Rattle.fsw_base.specs.Starts.{start_of}
 use Rattle.housekeeping.specs.Packet.{housekeeping_id}
 use Rattle.housekeeping.proofs.PacketLemmas.{message_id-housekeeping_packet}
-use Rattle.bus_events.specs.declared.event.ServiceEvent.{ServiceEvent}
 use Rattle.bus_words.specs.declared.calls.BusAnswer.{BusAnswer}
 use Rattle.bus_words.specs.declared.calls.BusAnswer.TheVariants.{Done, Sent}
 use Rattle.bus_words.specs.declared.history.Call.{Call}
@@ -23,8 +22,6 @@ use Rattle.bus_words.specs.declared.history.Entry.{Entry}
 use Rattle.bus_words.specs.Bus.{Subscription, State, Sending, Active, Waiting, opening, with_standing, is_empty, others_idle, route, is_subscribed, has_route, reached, unsent_size, deliver}
 use Rattle.bus_words.specs.Refusals.{Refusal, OfBus, OfPools, OfEvents, refusal_answer}
 use Rattle.bus_words.specs.Held.{in_use}
-use Rattle.bus_words.specs.Events.{unless_refused, send_events, sent_events, call_events, desk_by}
-use Rattle.bus_words.specs.Counters.{statistics_by}
 use Rattle.bus_words.specs.Machine.{Reads, sending_from, packet_in, recorded, reads_after, counts_for, next_count, stamped, front_of, delivered, sent_along, transmitted, buffer_gone, passed_along, buffer_transmitted, received, refused_state, accept, accept_with, decided, decided_with, cause, step, step_with, state_from, state_after, LegalFrom, IsLegal}
 use Rattle.bus_words.specs.Acts.{NextCount, Whole, AreAlike, reads_in, next_in, has_next, moved_on, first_next, nexts_after, completed, act, whole_from, whole_after, nexts_of, whole_of}
 use Rattle.bus_words.proofs.Finds.{Each, Each-push, Each-drop, Each-filter, any-push, any-map, same-self, same-sym}

@@ -1,10 +1,10 @@
 -- What the event desk counts as refused are the entries whose event or reset was refused.
-use Rattle.std.proofs.Common.{◌≡◌, ℕ, ◌+◌, ◌-◌, ◌^◌, min, Bool, true, false, cond, List, [], ◌∷◌, ◌++◌, Option, Some, None, refl, ap, sym, ◌∙◌, subst, zero-add, true≢false, arith}
+use Rattle.std.proofs.Common.{◌≡◌, ℕ, ◌+◌, ◌-◌, ◌^◌, min, Bool, true, false, cond, List, [], ◌∷◌, ◌++◌, Option, Some, None, refl, ap, sym, ◌∙◌, zero-add, true≢false, arith}
 use Rattle.std.specs.Prelude.{count_by, is_some}
 use Rattle.fsw_base.specs.Limits.{Limits}
 use Rattle.fsw_base.specs.declared.events.EventKind.{EventKind}
 use Rattle.fsw_base.specs.declared.statuses.EvsStatus.{EvsStatus}
-use Rattle.fsw_base.specs.declared.statuses.EvsStatus.TheVariants.{AppNotRegistered, EvtNotRegistered}
+use Rattle.fsw_base.specs.declared.statuses.EvsStatus.TheVariants.{EvtNotRegistered}
 use Rattle.fsw_base.specs.EventFilters.{EventFilter, passes, has_filter, restarted}
 use Rattle.fsw_base.specs.EventDesk.{Desk, one_more_if, filters_of, with_filters, passed, tested, refused_once, sent, send_refusal, reset, reset_refusal}
 use Rattle.bus_events.specs.declared.event.ServiceEvent.{ServiceEvent}

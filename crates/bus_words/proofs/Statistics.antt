@@ -22,7 +22,7 @@ use Rattle.bus_words.specs.Refusals.{Refusal, OfBus, OfPools, OfEvents, refusal_
 use Rattle.bus_words.specs.Events.{Moment, sent_events, call_events, desk_by}
 use Rattle.bus_events.specs.Events.{served_all}
 use Rattle.bus_words.specs.Counters.{event_counter, counters_raised, statistics_by, statistics_then}
-use Rattle.bus_words.specs.Machine.{sending_from, packet_in, sent_along, cause, decided_with, recorded, reads_after, step, state_from, state_after, LegalFrom, IsLegal, moments_from, moments, statistics_after}
+use Rattle.bus_words.specs.Machine.{sending_from, packet_in, sent_along, cause, decided_with, recorded, step, state_from, state_after, LegalFrom, IsLegal, moments_from, moments, statistics_after}
 use Rattle.bus_words.specs.Acts.{NextCount, Whole, reads_in, moved_on, completed, act}
 use Rattle.bus_words.proofs.Acts.{id-packet}
 use Rattle.bus_words.proofs.HeldBlocks.{bytes_of_sends}

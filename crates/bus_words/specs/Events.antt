@@ -1,6 +1,6 @@
 -- The events that the bus tells of its calls, and the event desk (cFE Event Services) after each
 -- call.
-use Rattle.std.specs.Prelude.{ℕ, true, List, [], ◌∷◌, map, fold, if◌then◌else◌}
+use Rattle.std.specs.Prelude.{ℕ, List, [], ◌∷◌, map, fold, if◌then◌else◌}
 use Rattle.fsw_base.specs.EventDesk.{Desk, new_desk, registered, unregistered, sent, reset, with_mode, cleared}
 use Rattle.ccsds_msg.specs.Message.{message_id}
 use Rattle.housekeeping.specs.Packet.{housekeeping_id}

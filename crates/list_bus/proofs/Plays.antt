@@ -6,7 +6,7 @@ use Rattle.housekeeping.specs.Statistics.{Statistics}
 use Rattle.bus_events.specs.declared.event.ServiceEvent.{ServiceEvent}
 use Rattle.bus_words.specs.declared.calls.BusAnswer.{BusAnswer}
 use Rattle.bus_words.specs.declared.history.Call.{Call}
-use Rattle.bus_words.specs.Acts.{Whole, reads_in}
+use Rattle.bus_words.specs.Acts.{Whole}
 use Rattle.bus_words.specs.Counters.{statistics_by}
 use Rattle.bus_words.specs.Events.{desk_by, call_events}
 use Rattle.bus_words.specs.Held.{in_use}

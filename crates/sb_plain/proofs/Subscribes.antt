@@ -13,7 +13,7 @@ use Rattle.fsw_base.specs.declared.statuses.SbStatus.TheVariants.{BadArgument, M
 use Rattle.ccsds_msg.specs.Message.{is_valid_id}
 use Rattle.bus_words.specs.declared.calls.BusAnswer.TheVariants.{Done}
 use Rattle.bus_words.specs.declared.history.Call.TheVariants.{Subscribe, Unsubscribe}
-use Rattle.bus_words.specs.Acts.{NextCount, reads_in, has_next, first_next}
+use Rattle.bus_words.specs.Acts.{NextCount, has_next, first_next}
 use Rattle.bus_words.specs.Held.{in_use}
 use Rattle.bus_words.specs.Bus.{State, Subscription, owns, is_subscribed, has_route, route}
 use Rattle.bus_words.specs.Machine.{subscribe_cause, refused_if}

@@ -1,6 +1,6 @@
 -- The core as its callers see it: its limits, the state, the loans of the last messages, and the
 -- descriptors of unsent buffers.
-use Rattle.std.specs.Prelude.{◌≡◌, ℕ, ◌≤◌, nat_le, nat_lt, Bool, true, List, [], length, IsTrue}
+use Rattle.std.specs.Prelude.{◌≡◌, ℕ, ◌≤◌, nat_le, nat_lt, Bool, true, List, length, IsTrue}
 use Rattle.fsw_base.specs.Limits.{Limits}
 use Rattle.housekeeping.specs.declared.names.CounterName.{CounterName}
 use Rattle.housekeeping.specs.Counters.{ticked}

@@ -6,7 +6,6 @@ use Rattle.lend_block.specs.Loan.{LentBytes}
 use Rattle.buf_desc.specs.Held.{Holding}
 use Rattle.bus_words.specs.declared.calls.BusAnswer.TheVariants.{Done}
 use Rattle.bus_words.specs.declared.history.Call.TheVariants.{End}
-use Rattle.bus_words.specs.Acts.{reads_in}
 use Rattle.bus_records.specs.Records.{Recordings, peaks_raised}
 use Rattle.bus_records.proofs.Leaves.{ended_left}
 use Rattle.bus_store.specs.Store.{Store}

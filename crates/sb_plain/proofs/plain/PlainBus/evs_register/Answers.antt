@@ -2,7 +2,6 @@ use Rattle.std.proofs.Common.{refl, sym, ◌∙◌}
 use Rattle.fsw_base.specs.Limits.{limits_of}
 use Rattle.bus_words.specs.declared.calls.BusAnswer.TheVariants.{Done}
 use Rattle.bus_words.specs.declared.history.Call.TheVariants.{Register}
-use Rattle.bus_words.specs.Acts.{reads_in}
 use Rattle.bus_records.proofs.Leaves.{registered_left}
 use Rattle.sb_plain.specs.Inside.{means}
 use Rattle.sb_plain.proofs.CallLaws.{acts_from}

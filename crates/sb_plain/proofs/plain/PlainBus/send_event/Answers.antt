@@ -1,7 +1,6 @@
 use Rattle.std.proofs.Common.{sym, ◌∙◌}
 use Rattle.fsw_base.specs.Limits.{limits_of}
 use Rattle.bus_words.specs.declared.history.Call.TheVariants.{SendEvent}
-use Rattle.bus_words.specs.Acts.{reads_in}
 use Rattle.bus_records.proofs.Leaves.{event_sent_left}
 use Rattle.sb_plain.specs.Answers.{event_told}
 use Rattle.sb_plain.specs.Inside.{means}

@@ -4,7 +4,6 @@ use Rattle.fsw_base.specs.Limits.{limits_of}
 use Rattle.housekeeping.specs.declared.names.CounterName.TheVariants as counters
 use Rattle.bus_words.specs.declared.calls.BusAnswer.TheVariants.{Done}
 use Rattle.bus_words.specs.declared.history.Call.TheVariants.{Subscribe}
-use Rattle.bus_words.specs.Acts.{reads_in}
 use Rattle.bus_words.specs.Bus.{is_subscribed}
 use Rattle.bus_words.specs.Machine.{by_bus, subscribe_cause}
 use Rattle.bus_tables.specs.Rows.{RouteRow}
