@@ -35,13 +35,16 @@ module _ {A B : Type 0} (read : A → B) (from : Offer A) (to : Offer B) (is : I
 -- A send. --
 
 -- what is offered, read as numbers of subscriptions
-numbered : (sending : Sending) → IsOffer (λ (item : Item). item.subscription) (offer_of sending) (record { sender = sending.sender; subscription_of = λ n. n; item_for = λ sub. sub.number })
-numbered sending = record { sender = refl; subscription = λ item. refl; item = λ sub. refl }
+abbrev pub numbers_offered : Sending → Offer ℕ
+numbers_offered sending = record { sender = sending.sender; subscription_of = λ n. n; item_for = λ sub. sub.number }
+
+pub is_offered : (sending : Sending) → IsOffer (λ (item : Item). item.subscription) (offer_of sending) (numbers_offered sending)
+is_offered sending = record { sender = refl; subscription = λ item. refl; item = λ sub. refl }
 
 -- the pipes that miss a send are those that miss any other send of its sender
 pub missed-any : (sending : Sending) (subs : List Subscription) (pipes : List Pipe) → missed sending subs pipes ≡ missed (any_send sending.sender) subs pipes
 missed-any sending subs pipes =
-    let to : Offer ℕ = record { sender = sending.sender; subscription_of = λ n. n; item_for = λ sub. sub.number } in
     let read : Item → ℕ = λ item. item.subscription in
-    misses_of-map read (offer_of sending) to (numbered sending) subs pipes
-    ∙ sym (misses_of-map read (offer_of (any_send sending.sender)) to (numbered (any_send sending.sender)) subs pipes)
+    let any : Sending = any_send sending.sender in
+    misses_of-map read (offer_of sending) (numbers_offered sending) (is_offered sending) subs pipes
+    ∙ sym (misses_of-map read (offer_of any) (numbers_offered any) (is_offered any) subs pipes)
