@@ -6,7 +6,7 @@ use Rattle.fsw_base.specs.declared.events.EventKind.{EventKind}
 use Rattle.fsw_base.specs.declared.statuses.EvsStatus.{EvsStatus}
 use Rattle.fsw_base.specs.declared.statuses.EvsStatus.TheVariants.{EvtNotRegistered}
 use Rattle.fsw_base.specs.EventFilters.{EventFilter, passes, has_filter, restarted}
-use Rattle.fsw_base.specs.EventDesk.{Desk, one_more_if, filters_of, with_filters, passed, tested, refused_once, sent, send_refusal, reset, reset_refusal}
+use Rattle.fsw_base.specs.EventDesk.{Desk, one_more, one_more_if, filters_of, with_filters, passed, tested, refused_once, sent, send_refusal, reset, reset_refusal}
 use Rattle.bus_events.specs.declared.event.ServiceEvent.{ServiceEvent}
 use Rattle.bus_events.specs.Events.{served_event, served_all}
 use Rattle.bus_words.specs.declared.calls.BusAnswer.{BusAnswer}
@@ -15,7 +15,7 @@ use Rattle.bus_words.specs.declared.history.Call.TheVariants.{Create, Delete, Se
 use Rattle.bus_words.specs.declared.history.Entry.{Entry}
 use Rattle.bus_words.specs.Bus.{State, opening}
 use Rattle.bus_words.specs.Events.{call_events, desk_by}
-use Rattle.bus_words.specs.Machine.{LegalFrom, IsLegal, by_events, cause, decided, decided_with, reads_after, state_after, state_from, step}
+use Rattle.bus_words.specs.Machine.{LegalFrom, IsLegal, by_events, cause, decided, state_after, state_from, step}
 use Rattle.bus_words.specs.Readings.{is_refused_event, count_of}
 use Rattle.bus_words.proofs.Readings.{count-more}
 
@@ -27,38 +27,40 @@ unfolding passed
 told-refused desk [] = refl
 told-refused desk (event ∷ events) = told-refused (served_event desk event) events
 
+-- either of two desks has so many refusals
+either_has : (n : ℕ) (b : Bool) (one other : Desk) → one.refused ≡ n → other.refused ≡ n → (cond {A = Desk} b one other).refused ≡ n
+either_has n true one other here there = here
+either_has n false one other here there = there
+
+event-by : (desk : Desk) (app id : ℕ) (kind : EventKind) (text : List ℕ) (o : Option (List EventFilter)) → filters_of desk app ≡ o →
+    (sent desk app id kind text).refused ≡ one_more_if (is_some (send_refusal desk app)) desk.refused
+unfolding sent passed
+event-by desk app id kind text None is = rw is refl
+event-by desk app id kind text (Some filters) is =
+    rw is
+    (either_has desk.refused (passes filters id) (passed (tested desk app filters id) app id kind text)
+    (record (tested desk app filters id) { filtered = one_more desk.filtered }) refl refl)
+
 -- an event is counted as refused where it has a refusal
 event-refused : (desk : Desk) (app id : ℕ) (kind : EventKind) (text : List ℕ) →
     (sent desk app id kind text).refused ≡ one_more_if (is_some (send_refusal desk app)) desk.refused
-unfolding sent passed
-event-refused desk app id kind text = by_filters (filters_of desk app) refl
-  where
-    by_test : (b : Bool) (one other : Desk) → one.refused ≡ desk.refused → other.refused ≡ desk.refused → (cond {A = Desk} b one other).refused ≡ desk.refused
-    by_test true one other here there = here
-    by_test false one other here there = there
+event-refused desk app id kind text = event-by desk app id kind text (filters_of desk app) refl
 
-    by_filters : (o : Option (List EventFilter)) → filters_of desk app ≡ o →
-        (sent desk app id kind text).refused ≡ one_more_if (is_some (send_refusal desk app)) desk.refused
-    by_filters None is = rw (is) refl
-    by_filters (Some filters) is =
-        rw (is)
-        (by_test (passes filters id) (passed (tested desk app filters id) app id kind text)
-        (record (tested desk app filters id) { filtered = min (desk.filtered + 1) 4294967295 }) refl refl)
+reset-either : (desk : Desk) (app id : ℕ) (filters : List EventFilter) (b : Bool) →
+    (cond {A = Desk} b (with_filters desk app (Some (restarted filters id))) (refused_once desk)).refused
+    ≡ one_more_if (is_some (cond {A = Option EvsStatus} b None (Some EvtNotRegistered))) desk.refused
+reset-either desk app id filters true = refl
+reset-either desk app id filters false = refl
+
+reset-by : (desk : Desk) (app id : ℕ) (o : Option (List EventFilter)) → filters_of desk app ≡ o →
+    (reset desk app id).refused ≡ one_more_if (is_some (reset_refusal desk app id)) desk.refused
+unfolding reset
+reset-by desk app id None is = rw is refl
+reset-by desk app id (Some filters) is = rw is (reset-either desk app id filters (has_filter filters id))
 
 -- so is a reset
 reset-refused : (desk : Desk) (app id : ℕ) → (reset desk app id).refused ≡ one_more_if (is_some (reset_refusal desk app id)) desk.refused
-unfolding reset
-reset-refused desk app id = by_filters (filters_of desk app) refl
-  where
-    by_test : (b : Bool) (filters : List EventFilter) →
-        (cond {A = Desk} b (with_filters desk app (Some (restarted filters id))) (refused_once desk)).refused
-        ≡ one_more_if (is_some (cond {A = Option EvsStatus} b None (Some EvtNotRegistered))) desk.refused
-    by_test true filters = refl
-    by_test false filters = refl
-
-    by_filters : (o : Option (List EventFilter)) → filters_of desk app ≡ o → (reset desk app id).refused ≡ one_more_if (is_some (reset_refusal desk app id)) desk.refused
-    by_filters None is = rw (is) refl
-    by_filters (Some filters) is = rw (is) (by_test (has_filter filters id) filters)
+reset-refused desk app id = reset-by desk app id (filters_of desk app) refl
 
 -- Calls. --
 
@@ -100,34 +102,36 @@ others-refused desk app Housekeeping events answer other = told-refused desk eve
 others-refused desk app Figures events answer other = told-refused desk events
 others-refused desk app End events answer other = refl
 
-step-refused : (limits : Limits) (history : List Entry) (s : State) (app : ℕ) (call : Call) →
+-- a call changes the count by its answer
+abbrev Counts : Limits → List Entry → State → ℕ → Call → Type 0
+Counts limits history s app call =
     ((step limits history s app call).1).events.refused ≡ one_more_if (is_refused_event call (step limits history s app call).0) s.events.refused
-step-refused limits history s app call = by_call call (may_be_refused call) refl
+
+event-answered : (limits : Limits) (history : List Entry) (s : State) (app id : ℕ) (kind : EventKind) (text : List ℕ) (o : Option EvsStatus) →
+    is_some o ≡ is_refused_event (SendEvent id kind text) ((decided limits history s app (SendEvent id kind text) (by_events o)).0)
+event-answered limits history s app id kind text None = refl
+event-answered limits history s app id kind text (Some status) = refl
+
+reset-answered : (limits : Limits) (history : List Entry) (s : State) (app id : ℕ) (o : Option EvsStatus) →
+    is_some o ≡ is_refused_event (ResetFilter id) ((decided limits history s app (ResetFilter id) (by_events o)).0)
+reset-answered limits history s app id None = refl
+reset-answered limits history s app id (Some status) = refl
+
+refusable : (limits : Limits) (history : List Entry) (s : State) (app : ℕ) (call : Call) → may_be_refused call ≡ true → Counts limits history s app call
+unfolding desk_by
+refusable limits history s app (SendEvent id kind text) is =
+    event-refused s.events app id kind text
+    ∙ ap (λ b. one_more_if b s.events.refused) (event-answered limits history s app id kind text (send_refusal s.events app))
+refusable limits history s app (ResetFilter id) is =
+    reset-refused s.events app id ∙ ap (λ b. one_more_if b s.events.refused) (reset-answered limits history s app id (reset_refusal s.events app id))
+refusable limits history s app call is = absurd (true≢false (sym is))
+
+step-refused : (limits : Limits) (history : List Entry) (s : State) (app : ℕ) (call : Call) → Counts limits history s app call
+step-refused limits history s app call = by_call (may_be_refused call) refl
   where
-    Counts : Call → Type 0
-    Counts call = ((step limits history s app call).1).events.refused ≡ one_more_if (is_refused_event call (step limits history s app call).0) s.events.refused
-
-    event-answered : (id : ℕ) (kind : EventKind) (text : List ℕ) (o : Option EvsStatus) →
-        is_some o ≡ is_refused_event (SendEvent id kind text) ((decided_with (reads_after limits history) limits s app (SendEvent id kind text) (by_events o)).0)
-    event-answered id kind text None = refl
-    event-answered id kind text (Some status) = refl
-
-    reset-answered : (id : ℕ) (o : Option EvsStatus) →
-        is_some o ≡ is_refused_event (ResetFilter id) ((decided_with (reads_after limits history) limits s app (ResetFilter id) (by_events o)).0)
-    reset-answered id None = refl
-    reset-answered id (Some status) = refl
-
-    refusable : (call : Call) → may_be_refused call ≡ true → Counts call
-    unfolding desk_by
-    refusable (SendEvent id kind text) is =
-        event-refused s.events app id kind text ∙ ap (λ b. one_more_if b s.events.refused) (event-answered id kind text (send_refusal s.events app))
-    refusable (ResetFilter id) is =
-        reset-refused s.events app id ∙ ap (λ b. one_more_if b s.events.refused) (reset-answered id (reset_refusal s.events app id))
-    refusable call is = absurd (true≢false (sym is))
-
-    by_call : (call : Call) (b : Bool) → may_be_refused call ≡ b → Counts call
-    by_call call true is = refusable call is
-    by_call call false is =
+    by_call : (b : Bool) → may_be_refused call ≡ b → Counts limits history s app call
+    by_call true is = refusable limits history s app call is
+    by_call false is =
         let made = decided limits history s app call (cause limits s app call) in
         others-refused s.events app call (call_events s app call made.0) made.0 is
 
