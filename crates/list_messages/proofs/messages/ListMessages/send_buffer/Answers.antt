@@ -16,7 +16,7 @@ settle-requires c =
 pub returns-clause-misses : goal.returns-clause-misses
 returns-clause-misses c =
     let m = c.self.inside in
-    let sending : Sending = record { sender = c.args.sender; number = c.args.number; asked = c.unsent_size-size.size; message = c.args.message.items } in
+    let sending : Sending = record { sender = c.args.sender; number = c.args.number; asked = c.unsent_size-size.result; message = c.args.message.items } in
     rw (c.in_ok-done.ensures.misses, c.in_ok-sending.ensures)
     (missed-any sending c.args.subs.now m.pipes.items ∙ ap (λ (t : Named). missed (any_send c.args.sender) c.args.subs.now t.part.pipes) c.self.view_is)
 
