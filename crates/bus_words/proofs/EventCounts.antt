@@ -6,7 +6,7 @@ use Rattle.fsw_base.specs.declared.events.EventKind.{EventKind}
 use Rattle.fsw_base.specs.declared.statuses.EvsStatus.{EvsStatus}
 use Rattle.fsw_base.specs.declared.statuses.EvsStatus.TheVariants.{EvtNotRegistered}
 use Rattle.fsw_base.specs.EventFilters.{EventFilter, passes, has_filter, restarted}
-use Rattle.fsw_base.specs.EventDesk.{Desk, one_more, one_more_if, filters_of, with_filters, passed, tested, refused_once, sent, send_refusal, reset, reset_refusal}
+use Rattle.fsw_base.specs.EventDesk.{Desk, counted, counted_if, filters_of, with_filters, passed, tested, refused_once, sent, send_refusal, reset, reset_refusal}
 use Rattle.bus_events.specs.declared.event.ServiceEvent.{ServiceEvent}
 use Rattle.bus_events.specs.Events.{served_event, served_all}
 use Rattle.bus_words.specs.declared.calls.BusAnswer.{BusAnswer}
@@ -33,33 +33,33 @@ either_has n true one other here there = here
 either_has n false one other here there = there
 
 event-by : (desk : Desk) (app id : ℕ) (kind : EventKind) (text : List ℕ) (o : Option (List EventFilter)) → filters_of desk app ≡ o →
-    (sent desk app id kind text).refused ≡ one_more_if (is_some (send_refusal desk app)) desk.refused
+    (sent desk app id kind text).refused ≡ counted_if (is_some (send_refusal desk app)) desk.refused
 unfolding sent passed
 event-by desk app id kind text None is = rw is refl
 event-by desk app id kind text (Some filters) is =
     rw is
     (either_has desk.refused (passes filters id) (passed (tested desk app filters id) app id kind text)
-    (record (tested desk app filters id) { filtered = one_more desk.filtered }) refl refl)
+    (record (tested desk app filters id) { filtered = counted desk.filtered }) refl refl)
 
 -- an event is counted as refused where it has a refusal
 event-refused : (desk : Desk) (app id : ℕ) (kind : EventKind) (text : List ℕ) →
-    (sent desk app id kind text).refused ≡ one_more_if (is_some (send_refusal desk app)) desk.refused
+    (sent desk app id kind text).refused ≡ counted_if (is_some (send_refusal desk app)) desk.refused
 event-refused desk app id kind text = event-by desk app id kind text (filters_of desk app) refl
 
 reset-either : (desk : Desk) (app id : ℕ) (filters : List EventFilter) (b : Bool) →
     (cond {A = Desk} b (with_filters desk app (Some (restarted filters id))) (refused_once desk)).refused
-    ≡ one_more_if (is_some (cond {A = Option EvsStatus} b None (Some EvtNotRegistered))) desk.refused
+    ≡ counted_if (is_some (cond {A = Option EvsStatus} b None (Some EvtNotRegistered))) desk.refused
 reset-either desk app id filters true = refl
 reset-either desk app id filters false = refl
 
 reset-by : (desk : Desk) (app id : ℕ) (o : Option (List EventFilter)) → filters_of desk app ≡ o →
-    (reset desk app id).refused ≡ one_more_if (is_some (reset_refusal desk app id)) desk.refused
+    (reset desk app id).refused ≡ counted_if (is_some (reset_refusal desk app id)) desk.refused
 unfolding reset
 reset-by desk app id None is = rw is refl
 reset-by desk app id (Some filters) is = rw is (reset-either desk app id filters (has_filter filters id))
 
 -- so is a reset
-reset-refused : (desk : Desk) (app id : ℕ) → (reset desk app id).refused ≡ one_more_if (is_some (reset_refusal desk app id)) desk.refused
+reset-refused : (desk : Desk) (app id : ℕ) → (reset desk app id).refused ≡ counted_if (is_some (reset_refusal desk app id)) desk.refused
 reset-refused desk app id = reset-by desk app id (filters_of desk app) refl
 
 -- Calls. --
@@ -72,7 +72,7 @@ may_be_refused call = false
 
 -- every other call leaves the count
 others-refused : (desk : Desk) (app : ℕ) (call : Call) (events : List ServiceEvent) (answer : BusAnswer) → may_be_refused call ≡ false →
-    (desk_by desk app call events).refused ≡ one_more_if (is_refused_event call answer) desk.refused
+    (desk_by desk app call events).refused ≡ counted_if (is_refused_event call answer) desk.refused
 unfolding desk_by
 others-refused desk app (Create depth name) events answer other = told-refused desk events
 others-refused desk app (Delete pipe) events answer other = told-refused desk events
@@ -105,7 +105,7 @@ others-refused desk app End events answer other = refl
 -- a call changes the count by its answer
 abbrev Counts : Limits → List Entry → State → ℕ → Call → Type 0
 Counts limits history s app call =
-    ((step limits history s app call).1).events.refused ≡ one_more_if (is_refused_event call (step limits history s app call).0) s.events.refused
+    ((step limits history s app call).1).events.refused ≡ counted_if (is_refused_event call (step limits history s app call).0) s.events.refused
 
 event-answered : (limits : Limits) (history : List Entry) (s : State) (app id : ℕ) (kind : EventKind) (text : List ℕ) (o : Option EvsStatus) →
     is_some o ≡ is_refused_event (SendEvent id kind text) ((decided limits history s app (SendEvent id kind text) (by_events o)).0)
@@ -121,9 +121,9 @@ refusable : (limits : Limits) (history : List Entry) (s : State) (app : ℕ) (ca
 unfolding desk_by
 refusable limits history s app (SendEvent id kind text) is =
     event-refused s.events app id kind text
-    ∙ ap (λ b. one_more_if b s.events.refused) (event-answered limits history s app id kind text (send_refusal s.events app))
+    ∙ ap (λ b. counted_if b s.events.refused) (event-answered limits history s app id kind text (send_refusal s.events app))
 refusable limits history s app (ResetFilter id) is =
-    reset-refused s.events app id ∙ ap (λ b. one_more_if b s.events.refused) (reset-answered limits history s app id (reset_refusal s.events app id))
+    reset-refused s.events app id ∙ ap (λ b. counted_if b s.events.refused) (reset-answered limits history s app id (reset_refusal s.events app id))
 refusable limits history s app call is = absurd (true≢false (sym is))
 
 step-refused : (limits : Limits) (history : List Entry) (s : State) (app : ℕ) (call : Call) → Counts limits history s app call
@@ -138,7 +138,7 @@ step-refused limits history s app call = by_call (may_be_refused call) refl
 -- Histories. --
 
 -- a count that was so many, at most the largest, and one more where the test holds
-raised-more : (b : Bool) (n : ℕ) → one_more_if b (min n (2 ^ 32 - 1)) ≡ min (n + cond {A = ℕ} b 1 0) (2 ^ 32 - 1)
+raised-more : (b : Bool) (n : ℕ) → counted_if b (min n (2 ^ 32 - 1)) ≡ min (n + cond {A = ℕ} b 1 0) (2 ^ 32 - 1)
 raised-more true n = omega arith
 raised-more false n = omega arith
 
@@ -150,8 +150,8 @@ refused-from limits history s (e ∷ es) n legal counts =
     let refused = is_refused_event e.call e.answer in
     refused-from limits (history ++ e ∷ []) next es (n + cond {A = ℕ} refused 1 0) legal.4
     (step-refused limits history s e.app e.call
-    ∙ ap (λ a. one_more_if (is_refused_event e.call a) s.events.refused) (sym legal.1)
-    ∙ ap (one_more_if refused) counts
+    ∙ ap (λ a. counted_if (is_refused_event e.call a) s.events.refused) (sym legal.1)
+    ∙ ap (counted_if refused) counts
     ∙ raised-more refused n)
     ∙ ap (λ k. min k (2 ^ 32 - 1)) (omega (arith, count-more (λ x. is_refused_event x.call x.answer) e es))
 
