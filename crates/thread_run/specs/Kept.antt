@@ -27,14 +27,14 @@ pub record EndsFor (script : ScriptText) (bus tables : TableId) (app : ℕ)
 
 -- what comes of an application that was begun: what its thread promised, or what it left in the
 -- caller's place
-abbrev pub Comes : Place → Done → Type 0
-Comes (OnThread handle) done = KeptBy handle.promise done
-Comes (Here left) done = done ≡ left
+abbrev pub Comes : {P : Type 0} → (P → Done → Type 0) → Place P → Done → Type 0
+Comes kept (OnThread handle) done = kept handle.promise done
+Comes kept (Here left) done = done ≡ left
 
 -- an application's start and where it runs: on the thread that was started, or in the caller's
 -- place, by what was handed back
-abbrev pub BeginsAs : {F : Type 0} → (F → Done → Type 0) →
-    Result (PromisedHandle Done Ends) (SpawnError F) → Place → Type 0
+abbrev pub BeginsAs : {P F : Type 0} → (F → Done → Type 0) →
+    Result (PromisedHandle Done P) (SpawnError F) → Place P → Type 0
 BeginsAs gives (Ok handle) (OnThread same) = same ≡ handle
 BeginsAs gives (Ok handle) (Here done) = ⊥
 BeginsAs gives (Err refused) (OnThread handle) = ⊥
@@ -42,13 +42,13 @@ BeginsAs gives (Err refused) (Here done) = gives refused.value done
 
 -- the application runs in a place where it is this one of this run: on a thread with its promise,
 -- or it is through
-abbrev pub RunsIn : ScriptText → TableId → TableId → ℕ → Place → Type 0
+abbrev pub RunsIn : ScriptText → TableId → TableId → ℕ → Place Ends → Type 0
 RunsIn script bus tables app (OnThread handle) = EndsFor script bus tables app handle.promise
 RunsIn script bus tables app (Here done) = IsDone script bus tables app done
 
 -- the application of this number was begun, in a run of as many as the script has
 pub record IsBegun (script : ScriptText) (bus tables : TableId) (app : ℕ)
-    (begun : Begun) : Type 0 where
+    (begun : Begun Ends) : Type 0 where
   pub runs : RunsIn script bus tables app begun.place
   pub apps : begun.apps ≡ length script.apps
 

@@ -17,7 +17,7 @@ use std::thread::{Scope, Threads};
 #[derive(Drop)]
 pub(crate) struct Lists<'e, 'r> {
     /// Those that were begun.
-    pub(crate) begun: Vec<Begun<'e, 'r>>,
+    pub(crate) begun: Vec<Begun<Ends<'e, 'r>>>,
     /// What is left of those that are through.
     pub(crate) dones: Vec<Done>,
 }
@@ -131,7 +131,7 @@ fn begin_rest<'s, 'x, 'e: 's, 'r: 's, R: Threads + Wait + Sync, G: Gate>(
     shared: RunParts<'e, 'r>,
     works: &mut Vec<Work<'e, 'r>>,
     starts: &mut Starts,
-    begun: &mut Vec<Begun<'e, 'r>>,
+    begun: &mut Vec<Begun<Ends<'e, 'r>>>,
 )
     requires works { Numbered (MayWork shared.script.now shared.bus.now shared.tables.now) 1
         works.old.items }
@@ -168,7 +168,7 @@ fn begin_rest<'s, 'x, 'e: 's, 'r: 's, R: Threads + Wait + Sync, G: Gate>(
 fn end_rest<'e, 'r, R: Threads>(
     rt: &R,
     shared: RunParts<'_, 'r>,
-    begun: &mut Vec<Begun<'e, 'r>>,
+    begun: &mut Vec<Begun<Ends<'e, 'r>>>,
     dones: &mut Vec<Done>,
     starts: &Starts,
 )
