@@ -17,6 +17,7 @@ use step_count::{Ledger, Steps};
 
 /// Draws a block for the message, writes it once, with the count where there is one, and seals it.
 /// Answers its descriptor, which has no use yet. At most 8 steps.
+#[inline(always)]
 pub(crate) fn put_message<L: Ledger>(
     desk: &mut Desk<'_>,
     bytes: &[u8],
