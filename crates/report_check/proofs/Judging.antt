@@ -1,0 +1,104 @@
+-- What was judged of a report is the answer on it.
+use Rattle.std.proofs.Common.{◌≡◌, ℕ, ◌+◌, Bool, true, false, List, ◌++◌, codes, refl, ap, sym, ◌∙◌, subst}
+use Rattle.std.proofs.lemmas.List.{append_cancel_left}
+use Rattle.bus_words.specs.declared.history.Entry.{Entry}
+use Rattle.run_report.specs.BusText.{entries_text}
+use Rattle.app_script.specs.Script.{ScriptText}
+use Rattle.app_script.specs.ScriptRanges.{IsScript}
+use Rattle.script_runs.specs.Histories.{Histories}
+use Rattle.script_runs.specs.Runs.{IsRunOf}
+use Rattle.run_check.specs.declared.verdict.Verdict.{Verdict}
+use Rattle.run_check.specs.declared.verdict.Verdict.TheVariants.{Yes, No}
+use Rattle.run_check.specs.Begun.{AreBegunTables, AreWholeTables, IsBegun, IsWhole}
+use Rattle.run_check.specs.Checks.{IsAnswer}
+use Rattle.run_check.specs.Fronts.{line_ends, wrong_line}
+use Rattle.run_check.specs.Judged.{Begins, NoHead, NoTables, Right, WrongEnd, entries_part}
+use Rattle.run_check.specs.Openings.{bus_part, head, report}
+use Rattle.run_check.proofs.Judgements.{judged_is_answered}
+use Rattle.replay_parts.specs.Compared.{Compared, GoesPast, Takes}
+use Rattle.replay_parts.proofs.Passing.{goes_past_both, wrong_behind}
+use Rattle.bus_replay.specs.Replayed.{AreWholeLines}
+use Rattle.bus_replay.specs.Replays.{IsReplayed, Replay}
+use Rattle.report_check.specs.Verdicts.{IsPastBus, IsTailJudged, unread}
+
+-- a text that was there, and one that wasn't
+pub taken : (there : Bool) (from to : Compared) (text : List ℕ) → there ≡ true → Takes there from to text → GoesPast from to text
+taken there from to text is takes = subst (λ b. Takes b from to text) is takes
+
+pub not_taken : (there : Bool) (from to : Compared) (text : List ℕ) → there ≡ false → Takes there from to text → (¬ Begins from.rest text) × (to ≡ from)
+not_taken there from to text is takes = subst (λ b. Takes b from to text) is takes
+
+-- The number of a wrong line behind a front of a report. --
+
+pub number_behind : (bytes front text : List ℕ) (at : Compared) → GoesPast (unread bytes) at front → at.lines + wrong_line at.rest text ≡ wrong_line bytes (front ++ text)
+number_behind bytes front text at past =
+    ap (λ n. n + wrong_line at.rest text) past.lines
+    ∙ sym (wrong_behind front at.rest text)
+    ∙ ap (λ b. wrong_line b (front ++ text)) (sym past.rest)
+
+-- The first two lines. --
+
+pub no_head : (script : ScriptText) (bytes : List ℕ) (line : ℕ) → IsScript script → ¬ Begins bytes (head script) → line ≡ 0 + wrong_line bytes (head script) → IsAnswer script bytes (No line)
+no_head script bytes line fine wrong is = judged_is_answered script bytes (No line) fine (NoHead wrong (ap No is))
+
+pub past_head : (script : ScriptText) (bytes : List ℕ) (at : Compared) → GoesPast (unread bytes) at (head script) → at.lines ≡ line_ends (head script)
+past_head script bytes at past = past.lines
+
+pub wrong_on_bus : (script : ScriptText) (bytes : List ℕ) (at : Compared) (line : ℕ) → GoesPast (unread bytes) at (head script) →
+    (at.lines ≡ line_ends (head script) → IsAnswer script (head script ++ at.rest) (No line)) → IsAnswer script bytes (No line)
+wrong_on_bus script bytes at line past answer =
+    let P : List ℕ → Type 0 = λ b. IsAnswer script b (No line) in subst P (sym past.rest) (answer (past_head script bytes at past))
+
+pub past_bus : (script : ScriptText) (bytes : List ℕ) (at to : Compared) (r : Replay) → GoesPast (unread bytes) at (head script) → AreWholeLines script at to r → IsPastBus script bytes to r
+past_bus script bytes at to r past lines = record {
+  history = lines.history;
+  same = lines.same;
+  replayed = lines.replayed;
+  whole = lines.whole;
+  text = goes_past_both (unread bytes) at to (head script) (entries_text lines.history) past lines.text;
+}
+
+-- The heading of the tables. --
+
+begun_on : (script : ScriptText) (history : List Entry) (r : Replay) → r.script ≡ script → IsReplayed history r → IsBegun script history
+begun_on script history r same replayed = let P : ScriptText → Type 0 = λ s. IsBegun s history in subst P same replayed.begun
+
+pub no_heading : (script : ScriptText) (bytes : List ℕ) (at : Compared) (r : Replay) (line : ℕ) → IsScript script → IsPastBus script bytes at r →
+    ¬ Begins at.rest (codes "tables\n") → line ≡ at.lines + wrong_line at.rest (codes "tables\n") → IsAnswer script bytes (No line)
+no_heading script bytes at r line fine past wrong is =
+    judged_is_answered script bytes (No line) fine
+    (NoTables past.history at.rest (begun_on script past.history r past.same past.replayed) past.whole past.text.rest wrong
+    (ap No (is ∙ number_behind bytes (bus_part script past.history) (codes "tables\n") at past.text)))
+
+-- past the heading
+pub past_heading : (script : ScriptText) (bytes : List ℕ) (from at : Compared) (r : Replay) (past : IsPastBus script bytes from r) → GoesPast from at (codes "tables\n") →
+    GoesPast (unread bytes) at (bus_part script past.history ++ codes "tables\n")
+past_heading script bytes from at r past heading = goes_past_both (unread bytes) from at (bus_part script past.history) (codes "tables\n") past.text heading
+
+pub wrong_on_tables : (script : ScriptText) (bytes : List ℕ) (from at : Compared) (r : Replay) (line : ℕ) → IsPastBus script bytes from r → GoesPast from at (codes "tables\n") →
+    ((bus : List Entry) → IsBegun script bus → IsWhole script bus → at.lines ≡ line_ends (bus_part script bus ++ codes "tables\n") →
+    IsAnswer script ((bus_part script bus ++ codes "tables\n") ++ at.rest) (No line)) → IsAnswer script bytes (No line)
+wrong_on_tables script bytes from at r line past heading answer =
+    let whole = past_heading script bytes from at r past heading in
+    let P : List ℕ → Type 0 = λ b. IsAnswer script b (No line) in
+    subst P (sym whole.rest) (answer past.history (begun_on script past.history r past.same past.replayed) past.whole whole.lines)
+
+-- The end. --
+
+-- histories of which nothing is missing are those of a run
+pub run_of : (script : ScriptText) (h : Histories) → IsBegun script h.bus → IsWhole script h.bus → AreBegunTables script h.tables → AreWholeTables script h.tables → IsRunOf script h
+run_of script h begun whole tables all = record {
+  legal = begun.legal;
+  legal_tables = tables.legal;
+  merges = record { each = whole; each_at_tables = all; nobody_else = begun.nobody_else; nobody_else_at_tables = tables.nobody_else };
+}
+
+-- what is judged of the end is the answer on the whole
+pub end_is_answered : (script : ScriptText) (bytes tail : List ℕ) (h : Histories) (at : Compared) (verdict : Verdict) → IsScript script → IsRunOf script h →
+    GoesPast (unread bytes) at (entries_part script h) → report script h ≡ entries_part script h ++ tail → IsTailJudged at tail verdict → IsAnswer script bytes verdict
+end_is_answered script bytes tail h at Yes fine run past parts judged =
+    judged_is_answered script bytes Yes fine (Right h run (past.rest ∙ ap (λ t. entries_part script h ++ t) judged ∙ sym parts) refl)
+end_is_answered script bytes tail h at (No line) fine run past parts judged =
+    judged_is_answered script bytes (No line) fine
+    (WrongEnd h at.rest run past.rest (λ same. judged.0 (append_cancel_left (entries_part script h) _ _ (sym past.rest ∙ same ∙ parts)))
+    (ap No (judged.1 ∙ number_behind bytes (entries_part script h) tail at past ∙ ap (wrong_line bytes) (sym parts))))

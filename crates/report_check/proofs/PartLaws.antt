@@ -1,0 +1,37 @@
+-- The parts of an input, line by line.
+use Rattle.std.proofs.Common.{◌≡◌, ℕ, suc, ◌+◌, Bool, true, false, cond, not, List, [], ◌∷◌, ◌++◌, take, drop, Option, Some, None, if◌then◌else◌, refl, ap, sym, ◌∙◌, arith, append_assoc, append-nil}
+use Rattle.std.specs.List.{position_or_len}
+use Rattle.script_words.specs.Text.{is_feed}
+use Rattle.report_check.specs.Parts.{is_mark, parts_from}
+
+abbrev Parts : Type 0
+Parts = Option (List ℕ × List ℕ)
+
+-- the parts behind a line, whose rest is so long
+abbrev pub after_line : List ℕ → List ℕ → List ℕ → ℕ → Parts
+after_line lines line text n =
+    if is_mark (line ++ take n text) then Some (lines , drop (n + 1) text) else parts_from (lines ++ (line ++ take (n + 1) text)) [] (drop (n + 1) text)
+
+-- a byte, by whether it ends the line
+abbrev by_byte : List ℕ → List ℕ → List ℕ → ℕ → Bool → Parts
+by_byte lines line text byte b =
+    if b then (if is_mark line then Some (lines , text) else parts_from (lines ++ line ++ byte ∷ []) [] text) else parts_from lines (line ++ byte ∷ []) text
+
+pub part_line : (lines line text : List ℕ) → parts_from lines line text ≡ after_line lines line text (position_or_len is_feed text)
+part_line lines line [] = ap (λ (l : List ℕ). if is_mark l then Some (lines , []) else None) (sym (append-nil line))
+part_line lines line (byte ∷ text) = by (is_feed byte) (part_line lines (line ++ byte ∷ []) text)
+  where
+    by : (b : Bool) → parts_from lines (line ++ byte ∷ []) text ≡ after_line lines (line ++ byte ∷ []) text (position_or_len is_feed text) →
+        by_byte lines line text byte b ≡ after_line lines line (byte ∷ text) (cond (not b) (1 + position_or_len is_feed text) 0)
+    by true more =
+        ap (λ (l : List ℕ). if is_mark l then Some (lines , text) else parts_from (lines ++ line ++ byte ∷ []) [] text) (sym (append-nil line))
+        ∙ ap (λ (l : List ℕ). if is_mark (line ++ []) then Some (lines , text) else parts_from l [] text) (append_assoc lines line (byte ∷ []))
+    by false more =
+        let n = position_or_len is_feed text in
+        let one : 1 + n ≡ suc n = omega arith in
+        more
+        ∙ ap (λ (l : List ℕ). if is_mark l then Some (lines , drop (n + 1) text) else parts_from (lines ++ ((line ++ byte ∷ []) ++ take (n + 1) text)) [] (drop (n + 1) text))
+        (append_assoc line (byte ∷ []) (take n text))
+        ∙ ap (λ (l : List ℕ). if is_mark (line ++ (byte ∷ take n text)) then Some (lines , drop (n + 1) text) else parts_from (lines ++ l) [] (drop (n + 1) text))
+        (append_assoc line (byte ∷ []) (take (n + 1) text))
+        ∙ ap (after_line lines line (byte ∷ text)) (sym one)
