@@ -5,7 +5,7 @@ use Rattle.run_report.proofs.pools.put_pool.Goals as goal
 
 pub returns : goal.returns
 returns g c =
-    let figures = c.figures.ensures in
+    let figures = c.figures-figures.ensures in
     c.put_pool_head.ensures ▸ puts_as _ (ap (λ f. field_text (codes "size") f.size) figures) c.put_field.ensures
     ▸ puts_as _ (ap (λ f. field_text (codes "free") f.free) figures) c.put_field-2.ensures
     ▸ puts_as _ (ap (λ f. field_text (codes "requests") f.requests) figures) c.put_field-3.ensures
