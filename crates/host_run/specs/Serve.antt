@@ -356,7 +356,7 @@ Completes result fed fed' old new =
 abbrev pub CompletesCheck : HostStatus → Fed → Fed → Made → Made → Type 0
 CompletesCheck result fed fed' old new =
     (input text report : List ℕ) (script : ScriptText) → fed.left ≡ Some input →
-    length input ≤ most_checked → parts_in input ≡ Some (text , report) →
+    length input ≤ most_checked → parts_in input ≡ Some (text, report) →
     grammar text ≡ Ok script →
     ¬ Rose fed.faults fed'.faults → ¬ Rose old.faults new.faults →
     ((verdict : Verdict) × IsAnswer script report verdict × (result ≡ status_on verdict))

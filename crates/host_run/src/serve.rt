@@ -31,7 +31,8 @@ use tbl_load::TblCore;
 use text_page::write_text;
 
 // Which words the program knows: each of their forms, as `Words::task` reads them.
-const USAGE: &[u8] = b"usage: run | lockstep | gen N | soak N | check | image | pack NAME OFFSET SUB\n";
+const USAGE: &[u8] =
+    b"usage: run | lockstep | gen N | soak N | check | image | pack NAME OFFSET SUB\n";
 
 // By what applications run on threads: the runtime, and the gate round their lines.
 #[derive(Drop)]
@@ -56,8 +57,8 @@ struct ByThreads<'a, R, G> {
 ///
 /// - `Usage`, on all other words: nothing is read, and the usage line is written.
 /// - `Script`, where the input is no script, or is longer than 1,048,576 bytes, on `check` than
-///   33,554,432; at most one byte more than that is read. The line of the first fault is written; by the code, no application
-///   ran.
+///   33,554,432; at most one byte more than that is read. The line of the first fault is written;
+///   by the code, no application ran.
 /// - `ReadFault`, only where the source's count of faults rose, or stands at its last value:
 ///   nothing is written.
 /// - `WriteFault`, only where the sink's count of faults rose, or stands at its last value: a front

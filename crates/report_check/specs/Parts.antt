@@ -10,10 +10,10 @@ is_mark line = bytes_eq line (codes "---") || bytes_eq line (codes "---\r")
 -- the parts of these lines, of this front of a line, and of the text behind them, where none of the
 -- lines stands between two parts
 abbrev pub parts_from : List ℕ → List ℕ → List ℕ → Option (List ℕ × List ℕ)
-parts_from lines line [] = if is_mark line then Some (lines , []) else None
+parts_from lines line [] = if is_mark line then Some (lines, []) else None
 parts_from lines line (byte ∷ text) =
     if is_feed byte
-    then (if is_mark line then Some (lines , text)
+    then (if is_mark line then Some (lines, text)
     else parts_from (lines ++ line ++ byte ∷ []) [] text)
     else parts_from lines (line ++ byte ∷ []) text
 

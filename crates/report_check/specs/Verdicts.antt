@@ -17,13 +17,13 @@ abbrev pub unread : List ℕ → Compared
 unread bytes = record { rest = bytes; lines = 0 }
 
 -- The text is past the lines on the bus, of a history of which nothing is missing.
-pub record IsPastBus (script : ScriptText) (bytes : List ℕ) (text : Compared)
+pub record IsPastBus (script : ScriptText) (bytes : List ℕ) (at : Compared)
     (r : Replay) : Type 0 where
   pub history : List Entry
   pub same : r.script ≡ script
   pub replayed : IsReplayed history r
   pub whole : IsWhole script history
-  pub text : GoesPast (unread bytes) text (bus_part script history)
+  pub text : GoesPast (unread bytes) at (bus_part script history)
 
 -- what is kept of both services is what histories leave of which nothing is missing
 pub record AreBehind (script : ScriptText) (histories : Histories) (r : Replay)

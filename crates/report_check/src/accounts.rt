@@ -7,7 +7,7 @@ ghost use Rattle.run_report.specs.CounterText.{accounts_text};
 use es_pool::ClassStats;
 use fsw_base::{PoolStats, Sink, SinkGuard};
 use list_pool::{GrantPools, ListAccount};
-use run_report::{Accounted, PoolName, put_account};
+use run_report::{HasAccount, PoolName, put_account};
 use std::alloc::{AllocError, Global};
 use std::marker::Model;
 use text_page::Page;
@@ -36,7 +36,7 @@ impl<'a> ShownAccount<'a> {
     }
 }
 
-impl<'a> Accounted for ShownAccount<'a> {
+impl<'a> HasAccount for ShownAccount<'a> {
     ghost account = { λ account. account };
 
     fn figures(&self) -> PoolStats {
@@ -66,10 +66,7 @@ impl<'a> Accounted for ShownAccount<'a> {
 ///
 /// # Errors
 /// `AllocError` where memory runs out, or where a number of 32 bits is spent.
-pub(crate) fn accounts_of(
-    alloc: Global,
-    pools: &GrantPools,
-) -> Result<Vec<ListAccount>, AllocError>
+pub(crate) fn accounts_of(alloc: Global, pools: &GrantPools) -> Result<Vec<ListAccount>, AllocError>
     ensures { IfOk result (λ accounts. accounts.items ≡ map pool_account pools.now.pools) }
 {
     let mut accounts = Vec::new(alloc);

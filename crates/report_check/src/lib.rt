@@ -15,7 +15,7 @@
 //!
 //! - `check` answers Yes exactly where the text is the report of a run of the script, and else the
 //!   number of the first line up to which it is no run's (`IsAnswer`).
-//! - `parts_of` finds the script and the report in one input, on both sides of the first line `---`.
+//! - `parts_of` cuts an input at its first line `---`, into a script and a report.
 #![tactic(auto)]
 
 mod accounts;

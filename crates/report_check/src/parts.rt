@@ -11,7 +11,7 @@ use memchr::memchr;
 /// is. A carriage return before the line's feed is no part of it, and the last line may have no
 /// feed.
 pub fn parts_of<'a>(input: &'a [u8]) -> Option<(&'a [u8], &'a [u8])>
-    ensures { option_map (λ parts. (parts.0.now , parts.1.now)) result ≡
+    ensures { option_map (λ parts. (parts.0.now, parts.1.now)) result ≡
         parts_in input.entry.now }
 {
     let mut start = 0;

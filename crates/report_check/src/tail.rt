@@ -25,7 +25,7 @@ use text_page::{Page, finish, put};
 #[derive(Drop)]
 struct TablesShown {
     // What is in use now.
-    now: TblUse,
+    in_use: TblUse,
     // The greatest numbers that were in use.
     peak: TblUse,
     // The account of their pool.
@@ -37,7 +37,7 @@ impl Model for TablesShown {
 
     ghost Value = { TableFigures };
 
-    ghost view = { λ t. record { now = t.now; peak = t.peak; pool = t.pool } };
+    ghost view = { λ t. record { now = t.in_use; peak = t.peak; pool = t.pool } };
 }
 
 /// The end of the report of a run of so many applications that was played again: its lines from
@@ -73,10 +73,10 @@ pub(crate) fn tail_of(
 fn tables_shown(alloc: Global, tables: &TableReplay<'_>) -> Result<TablesShown, AllocError>
     ensures { IfOk result (λ shown. shown ≡ table_figures_kept tables.now) }
 {
-    let now = tables.tables().in_use()?;
+    let in_use = tables.tables().in_use()?;
     let pool = tables.tables().account(alloc)?;
     Ok(TablesShown {
-        now,
+        in_use,
         peak: tables.peak(),
         pool,
     })
@@ -124,7 +124,7 @@ fn put_ending<K: Sink>(
     requires played { IsPlayed bus.now }
     requires accounts { accounts.now ≡ map pool_account bus.now.whole.bus.pools.pools }
     ensures { Puts sink.old sink.new page.old page.new
-        (ending_text (figures_shown bus.now.limits bus.now.whole.bus) tables.now) }
+        (ending_text (figures_shown bus.now.limits bus.now.whole.bus) tables.entry.now) }
 {
     let _ = bus.pools().count();
     put(sink, page, b"counters\n");
@@ -133,7 +133,7 @@ fn put_ending<K: Sink>(
     put_account(sink, page, PoolName::Bus, &ShownAccount::new(bus.account()));
     put_accounts(sink, page, accounts);
     put_desk(sink, page, bus.desk());
-    put_table_uses(sink, page, tables.now, tables.peak);
+    put_table_uses(sink, page, tables.in_use, tables.peak);
     put_account(
         sink,
         page,

@@ -50,7 +50,7 @@ pub use counters::{put_counts, put_desk, put_table_uses, put_uses};
 pub use entries::write_bus_entry;
 pub use events::{put_log, write_log_line};
 pub use laws::reports_tell_applications_and_answers;
-pub use pools::{Accounted, PoolName, put_account};
+pub use pools::{HasAccount, PoolName, put_account};
 pub use readings::{BusReadings, TableReadings};
 pub use receipts::{put_receipt, write_receipt};
 pub use table_entries::write_tbl_entry;

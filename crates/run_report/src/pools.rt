@@ -13,7 +13,7 @@ use fsw_base::{PoolStats, Sink, SinkGuard};
 use text_page::{Page, put, put_number};
 
 /// A memory pool whose account a report shows, however it is kept.
-pub trait Accounted {
+pub trait HasAccount {
     /// Its account.
     ghost account: { Self → Account };
 
@@ -32,7 +32,7 @@ pub trait Accounted {
         ensures { result ≡ class_in (account self.now) class };
 }
 
-impl Accounted for Pool {
+impl HasAccount for Pool {
     ghost account = { account_read };
 
     fn figures(&self) -> PoolStats {
@@ -76,7 +76,7 @@ pub fn put_app_pools<K: Sink>(sink: &mut SinkGuard<'_, K>, page: &mut Page, pool
 }
 
 /// Puts the lines of a pool: its own, and one for each block size of which blocks were cut.
-pub fn put_account<K: Sink, P: Accounted>(
+pub fn put_account<K: Sink, P: HasAccount>(
     sink: &mut SinkGuard<'_, K>,
     page: &mut Page,
     name: PoolName,
@@ -89,7 +89,7 @@ pub fn put_account<K: Sink, P: Accounted>(
 }
 
 // Puts the line of a pool itself.
-fn put_pool<K: Sink, P: Accounted>(
+fn put_pool<K: Sink, P: HasAccount>(
     sink: &mut SinkGuard<'_, K>,
     page: &mut Page,
     name: PoolName,
@@ -107,7 +107,7 @@ fn put_pool<K: Sink, P: Accounted>(
 }
 
 // Puts the lines of a pool's block sizes, the smallest first.
-fn put_classes<K: Sink, P: Accounted>(
+fn put_classes<K: Sink, P: HasAccount>(
     sink: &mut SinkGuard<'_, K>,
     page: &mut Page,
     name: PoolName,
@@ -123,7 +123,7 @@ fn put_classes<K: Sink, P: Accounted>(
 }
 
 // Puts the line of a block size, by its place; nothing where no block of it was cut.
-fn put_class<K: Sink, P: Accounted>(
+fn put_class<K: Sink, P: HasAccount>(
     sink: &mut SinkGuard<'_, K>,
     page: &mut Page,
     name: PoolName,

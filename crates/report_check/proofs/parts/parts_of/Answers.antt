@@ -12,7 +12,7 @@ returns-then-is_mark c =
     let start = c.loop-start.start in
     let line = c.line_len-line.result in
     let rest = rest_of start input in
-    ap (λ (t : List ℕ). Some (take start input , t)) (c.behind.ensures ∙ ap (drop (line + 1)) rest)
+    ap (λ (t : List ℕ). Some (take start input, t)) (c.behind.ensures ∙ ap (drop (line + 1)) rest)
     ∙ line_found input start line c.loop-start.invariant (c.line_len-line.ensures.value ∙ ap (position_or_len is_feed) rest)
     (sym (ap (λ (l : List ℕ). is_mark (take line l)) rest) ∙ sym c.is_mark.ensures ∙ c.if-is_mark.true)
 

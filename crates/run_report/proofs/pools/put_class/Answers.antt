@@ -7,7 +7,7 @@ use Rattle.run_report.proofs.pools.put_class.Goals as goal
 pub returns-then-figures-ne0 : goal.returns-then-figures-ne0
 returns-then-figures-ne0 g c =
     let figures = c.class-figures.ensures in
-    let account = g.P.Accounted.account c.args.pool.now in
+    let account = g.P.HasAccount.account c.args.pool.now in
     let made = ap (λ f. f.made) figures in
     puts_as _ (sym (class-cut c.args.name account c.args.class (λ none. c.if-figures-ne0.true (made ∙ none))))
     (c.put_class_head.ensures ▸ c.put.ensures ▸ puts_as _ (ap (λ f. decimal f.size) figures) c.put_number.ensures
@@ -17,7 +17,7 @@ returns-then-figures-ne0 g c =
 
 pub returns-else-figures-ne0 : goal.returns-else-figures-ne0
 returns-else-figures-ne0 g c =
-    let account = g.P.Accounted.account c.args.pool.now in
+    let account = g.P.HasAccount.account c.args.pool.now in
     let made = ap (λ f. f.made) c.class-figures.ensures in
     puts_as _ (sym (class-uncut c.args.name account c.args.class (sym made ∙ c.if-figures-ne0.false)))
     (waits_behind c.args.sink.now c.args.page.now c.args.page.now [] (sym (append-nil c.args.page.now)))

@@ -9,4 +9,4 @@ loop-class-init g c = waits_behind c.args.sink.now c.args.page.now c.args.page.n
 
 pub loop-class-preserved : goal.loop-class-preserved
 loop-class-preserved g c =
-    puts_as _ (flat_map-range (class_text c.args.name (g.P.Accounted.account c.args.pool.now)) c.loop-class.class) (c.loop-class.invariant ▸ c.put_class.ensures)
+    puts_as _ (flat_map-range (class_text c.args.name (g.P.HasAccount.account c.args.pool.now)) c.loop-class.class) (c.loop-class.invariant ▸ c.put_class.ensures)
