@@ -6,8 +6,6 @@ use Rattle.std.specs.Option.{option_map, option_map_or}
 use Rattle.fsw_base.specs.Limits.{Limits}
 use Rattle.bus_words.specs.declared.receipts.Receipt.{Receipt}
 use Rattle.bus_words.specs.Acts.{Whole, whole_after}
-use Rattle.bus_words.specs.Bus.{State}
-use Rattle.bus_words.specs.Machine.{state_after}
 use Rattle.bus_words.proofs.Acts.{whole_after-legal}
 use Rattle.tbl_words.specs.declared.uses.TblUse.{TblUse}
 use Rattle.tbl_words.specs.Machine.{state_after as tables_after}

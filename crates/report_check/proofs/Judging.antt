@@ -1,5 +1,5 @@
 -- What was judged of a report is the answer on it.
-use Rattle.std.proofs.Common.{◌≡◌, ℕ, ◌+◌, Bool, true, false, List, [], ◌++◌, length, codes, refl, ap, sym, ◌∙◌, subst, arith, append_assoc, append-nil}
+use Rattle.std.proofs.Common.{◌≡◌, ℕ, ◌+◌, Bool, true, false, List, [], ◌++◌, length, codes, Result, Ok, Err, IfOk, refl, ap, sym, ◌∙◌, subst, arith, append_assoc, append-nil}
 use Rattle.std.proofs.lemmas.List.{append_cancel_left}
 use Rattle.bus_words.specs.declared.history.Entry.{Entry}
 use Rattle.tbl_words.specs.declared.history.Entry.{Entry as TableEntry}
@@ -158,3 +158,28 @@ judged_at_end script bytes from at to r t tail verdict fine past heading lines k
     (goes_past_both (unread bytes) at to (bus_part script past.history ++ codes "tables\n") (table_entries_text lines.history) whole lines.text) in
     end_is_answered script bytes tail h to verdict fine run there
     (tail_is script h r t (behind_both script bytes from at to r t past heading lines) run ∙ ap (λ l. entries_part script h ++ l) (sym kept)) judged
+
+-- What the code has. --
+
+-- the first two lines, looked for in a report of which nothing was compared yet
+pub head_missing : (script : ScriptText) (bytes : List ℕ) (from to : Compared) (text : List ℕ) (there : Bool) (line : ℕ) → IsScript script → from ≡ unread bytes → text ≡ head script →
+    there ≡ false → Takes there from to text → line ≡ to.lines + wrong_line to.rest text → IsAnswer script bytes (No line)
+head_missing script bytes from to text there line fine new is missing takes says =
+    let found = not_taken there from to text missing takes in
+    let wrong : ¬ Begins bytes (head script) = λ begins.
+    let P : List ℕ → Type 0 = Begins from.rest in
+    let Q : Compared → Type 0 = λ t. Begins t.rest (head script) in
+    found.0 (subst P (sym is) (subst Q (sym new) begins)) in
+    no_head script bytes to line fine wrong (found.1 ∙ new) (says ∙ ap (λ (t : List ℕ). to.lines + wrong_line to.rest t) is)
+
+pub head_there : (script : ScriptText) (bytes : List ℕ) (from to : Compared) (text : List ℕ) (there : Bool) → from ≡ unread bytes → text ≡ head script → there ≡ true → Takes there from to text →
+    GoesPast (unread bytes) to (head script)
+head_there script bytes from to text there new is found takes =
+    let P : List ℕ → Type 0 = GoesPast (unread bytes) to in
+    let Q : Compared → Type 0 = λ t. GoesPast t to text in
+    subst P is (subst Q new (taken there from to text found takes))
+
+-- one fact of an Ok gives another
+pub if_ok_more : {T E : Type 0} {P Q : T → Type 0} (r : Result T E) → ((x : T) → P x → Q x) → IfOk r P → IfOk r Q
+if_ok_more (Ok x) more holds = more x holds
+if_ok_more (Err e) more holds = tt

@@ -1,45 +1,66 @@
 -- Receipts of both services, one after another.
-use Rattle.std.proofs.Common.{◌≡◌, ℕ, zero, suc, ◌+◌, Bool, true, false, List, [], ◌∷◌, ◌++◌, length, map, drop, Some, refl, ap, sym, ◌∙◌, arith, append_assoc, append-nil}
-use Rattle.std.specs.Prelude.{nat_lt, slice_get, if◌then◌else◌}
+use Rattle.std.proofs.Common.{◌≡◌, ℕ, zero, suc, ◌+◌, add-one, ◌<◌, Bool, true, false, ◌⊎◌, inl, inr, List, [], ◌∷◌, ◌++◌, length, map, take, drop, get_or, refl, ap, sym, ◌∙◌, arith, append_assoc, append-nil}
+use Rattle.std.specs.Prelude.{nat_lt, if◌then◌else◌}
 use Rattle.std.specs.List.{range_with_len}
-use Rattle.std.proofs.lemmas.List.{length-map, map_push}
+use Rattle.std.proofs.lemmas.Grind.{flat_map-append}
+use Rattle.std.proofs.lemmas.List.{length-map, map_push, take_more}
 use Rattle.bus_words.specs.declared.receipts.Receipt.{Receipt}
 use Rattle.run_report.specs.ReceiptText.{application_text, receipt_text, receipts_text}
 use Rattle.run_check.specs.Merged.{merged, merged_with, receipts_in}
 use Rattle.run_check.specs.Places.{Made}
 use Rattle.run_check.proofs.Texts.{numbered_push}
-use Rattle.report_check.specs.Tails.{is_of_bus}
+use Rattle.std.proofs.lemmas.Bool.{lt-ltb, ltb-true}
 
--- no receipt of the tables is left
+-- of receipts of both services the one comes first whose line does
+pub merged-bus : (bus tables : List Made) (m t : Made) → 0 < length bus → 0 < length tables → m ≡ get_or bus 0 m → t ≡ get_or tables 0 t → m.place < t.place →
+    merged bus tables ≡ m.receipt ∷ merged (drop 1 bus) tables
+merged-bus [] tables m t some more first other less = absurd (omega (arith, some))
+merged-bus (x ∷ ms) [] m t some more first other less = absurd (omega (arith, more))
+merged-bus (x ∷ ms) (y ∷ ts) m t some more first other less =
+    let before : nat_lt x.place y.place ≡ true = lt-ltb x.place y.place (omega (arith, less, ap (λ (a : Made). a.place) first, ap (λ (a : Made). a.place) other)) in
+    ap (λ (b : Bool). if b then x.receipt ∷ merged ms (y ∷ ts) else (y.receipt ∷ merged_with x ms (merged ms) ts)) before
+    ∙ ap (λ (a : Made). a.receipt ∷ merged ms (y ∷ ts)) (sym first)
+
+pub merged-tables : (bus tables : List Made) (m t : Made) → 0 < length bus → 0 < length tables → m ≡ get_or bus 0 m → t ≡ get_or tables 0 t → ¬ (m.place < t.place) →
+    merged bus tables ≡ t.receipt ∷ merged bus (drop 1 tables)
+merged-tables [] tables m t some more first other less = absurd (omega (arith, some))
+merged-tables (x ∷ ms) [] m t some more first other less = absurd (omega (arith, more))
+merged-tables (x ∷ ms) (y ∷ ts) m t some more first other less =
+    let behind : nat_lt x.place y.place ≡ false = by (nat_lt x.place y.place) refl in
+    ap (λ (b : Bool). if b then x.receipt ∷ merged ms (y ∷ ts) else (y.receipt ∷ merged_with x ms (merged ms) ts)) behind
+    ∙ ap (λ (a : Made). a.receipt ∷ merged_with x ms (merged ms) ts) (sym other)
+  where
+    by : (b : Bool) → nat_lt x.place y.place ≡ b → b ≡ false
+    by false is = refl
+    by true is = absurd (less (omega (arith, ltb-true x.place y.place is, ap (λ (a : Made). a.place) first, ap (λ (a : Made). a.place) other)))
+
+-- where none of one service is left, those of the other follow
 merged-none : (bus : List Made) → merged bus [] ≡ receipts_in bus
 merged-none [] = refl
 merged-none (m ∷ ms) = refl
 
--- the next receipt is one of the bus
-pub merged-bus : (bus tables : List Made) (m : Made) → is_of_bus bus tables ≡ true → slice_get bus 0 ≡ Some m → merged bus tables ≡ m.receipt ∷ merged (drop 1 bus) tables
-merged-bus [] tables m is there = absurd (cc is)
-merged-bus (x ∷ ms) [] m is there =
-    let same : x ≡ m = cc there in
-    ap (λ (y : Made). y.receipt ∷ receipts_in ms) same ∙ ap (λ (rs : List Receipt). m.receipt ∷ rs) (sym (merged-none ms))
-merged-bus (x ∷ ms) (t ∷ ts) m is there =
-    let same : x ≡ m = cc there in
-    ap (λ (b : Bool). if b then x.receipt ∷ merged ms (t ∷ ts) else (t.receipt ∷ merged_with x ms (merged ms) ts)) is
-    ∙ ap (λ (y : Made). y.receipt ∷ merged ms (t ∷ ts)) same
-
--- it is one of the tables
-pub merged-tables : (bus tables : List Made) (t : Made) → is_of_bus bus tables ≡ false → slice_get tables 0 ≡ Some t → merged bus tables ≡ t.receipt ∷ merged bus (drop 1 tables)
-merged-tables bus [] t is there = absurd (cc there)
-merged-tables [] (x ∷ ts) t is there = let same : x ≡ t = cc there in ap (λ (y : Made). y.receipt ∷ receipts_in ts) same
-merged-tables (m ∷ ms) (x ∷ ts) t is there =
-    let same : x ≡ t = cc there in
-    ap (λ (b : Bool). if b then m.receipt ∷ merged ms (x ∷ ts) else (x.receipt ∷ merged_with m ms (merged ms) ts)) is
-    ∙ ap (λ (y : Made). y.receipt ∷ merged_with m ms (merged ms) ts) same
+pub put_rest : (app : ℕ) (bus tables : List Made) → (length bus ≡ 0) ⊎ (length tables ≡ 0) →
+    application_text app (receipts_in bus) ++ application_text app (receipts_in tables) ≡ application_text app (merged bus tables)
+put_rest app [] tables none = refl
+put_rest app (m ∷ ms) [] none = append-nil (application_text app (receipts_in (m ∷ ms))) ∙ ap (application_text app) (sym (merged-none (m ∷ ms)))
+put_rest app (m ∷ ms) (t ∷ ts) (inl none) = absurd (omega (arith, none))
+put_rest app (m ∷ ms) (t ∷ ts) (inr none) = absurd (omega (arith, none))
 
 -- the text of what is put is that of all, where this is what was put and what is left
 pub put_more : (app : ℕ) (all left more : List Receipt) (r : Receipt) (put : List ℕ) → application_text app all ≡ put ++ application_text app left → left ≡ r ∷ more →
     application_text app all ≡ (put ++ receipt_text app r) ++ application_text app more
 put_more app all left more r put whole next =
     whole ∙ ap (λ (rs : List Receipt). put ++ application_text app rs) next ∙ sym (append_assoc put (receipt_text app r) (application_text app more))
+
+-- the text of one receipt more
+pub texts_more : (app : ℕ) (made : List Made) (i : ℕ) (m : Made) → i < length made → m ≡ get_or made i m →
+    application_text app (receipts_in (take i made)) ++ receipt_text app m.receipt ≡ application_text app (receipts_in (take (i + 1) made))
+texts_more app made i m inside there =
+    ap (λ l. application_text app (receipts_in (take i made)) ++ l) (sym (append-nil (receipt_text app m.receipt)))
+    ∙ sym (flat_map-append (receipt_text app) (receipts_in (take i made)) (m.receipt ∷ []))
+    ∙ ap (application_text app)
+    (sym (map_push (λ (x : Made). x.receipt) (take i made) m)
+    ∙ ap receipts_in (ap (λ (y : Made). take i made ++ y ∷ []) there ∙ sym (take_more made i m inside)))
 
 -- one number more
 range-more : (a n m : ℕ) → a + n ≡ m → range_with_len a (suc n) ≡ range_with_len a n ++ m ∷ []
@@ -56,7 +77,7 @@ pub receipts_more : (f : ℕ → List Receipt) (n : ℕ) →
 receipts_more f n =
     ap (λ m. receipts_text (map f (range_with_len 1 n)) ++ application_text m (f (n + 1))) count
     ∙ sym (numbered_push application_text 1 (map f (range_with_len 1 n)) (f (n + 1)))
-    ∙ ap receipts_text (sym (map_push f (range_with_len 1 n) (n + 1)) ∙ ap (map f) (sym (range-more 1 n (n + 1) (omega arith)) ∙ ap (range_with_len 1) (omega arith)))
+    ∙ ap receipts_text (sym (map_push f (range_with_len 1 n) (n + 1)) ∙ ap (map f) (sym (range-more 1 n (n + 1) (omega arith)) ∙ ap (range_with_len 1) (sym (add-one n))))
   where
     count : n + 1 ≡ 1 + length (map f (range_with_len 1 n))
     count = omega (arith, length-map (range_with_len 1 n) f, length-range 1 n)

@@ -1,5 +1,5 @@
 -- The end of a report, by what is kept of both services behind the lines of their entries.
-use Rattle.std.specs.Prelude.{ℕ, ◌-◌, nat_lt, Bool, true, false, List, [], ◌∷◌, ◌++◌, length, map, codes, slice_get}
+use Rattle.std.specs.Prelude.{ℕ, ◌-◌, List, [], ◌++◌, map, codes, slice_get}
 use Rattle.std.specs.List.{range_with_len}
 use Rattle.std.specs.Option.{option_map_or}
 use Rattle.bus_words.specs.declared.receipts.Receipt.{Receipt}
@@ -15,12 +15,6 @@ use Rattle.run_check.specs.TablePlaces.{TablePlace}
 use Rattle.bus_replay.specs.Places.{Kept}
 use Rattle.bus_replay.specs.Replays.{Replay}
 use Rattle.table_replay.specs.Replays.{Replay as TableReplay}
-
--- whether the next receipt of an application is one of the bus, where these are left
-abbrev pub is_of_bus : List Made → List Made → Bool
-is_of_bus [] tables = false
-is_of_bus (m ∷ ms) [] = true
-is_of_bus (m ∷ ms) (t ∷ ts) = nat_lt m.place t.place
 
 -- what an application's lines made of the bus, where all applications are at these places
 abbrev pub made_of_bus : List Kept → ℕ → List Made

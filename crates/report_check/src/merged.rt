@@ -2,9 +2,9 @@
 ghost use Rattle.std.specs.Prelude.{◌≡◌, ◌≤◌, length, map};
 ghost use Rattle.std.specs.List.{range_with_len};
 ghost use Rattle.text_page.specs.Pieces.{Puts};
-ghost use Rattle.run_check.specs.Merged.{merged};
+ghost use Rattle.run_check.specs.Merged.{merged, receipts_in};
 ghost use Rattle.run_report.specs.ReceiptText.{application_text, receipts_text};
-ghost use Rattle.report_check.specs.Tails.{is_of_bus, receipts_kept};
+ghost use Rattle.report_check.specs.Tails.{receipts_kept};
 
 use bus_replay::BusReplay;
 use fsw_base::{AppNo, Sink, SinkGuard};
@@ -73,26 +73,33 @@ fn put_merged<K: Sink>(
 {
     let mut of_bus = bus;
     let mut of_tables = tables;
-    while !of_bus.is_empty() || !of_tables.is_empty() {
-        if is_of_bus(of_bus, of_tables) {
-            let made = &of_bus[0];
+    while !of_bus.is_empty() && !of_tables.is_empty() {
+        let made = &of_bus[0];
+        let other = &of_tables[0];
+        if made.place < other.place {
             put_receipt(sink, page, app, &made.receipt);
             of_bus = &of_bus[1..];
         } else {
-            let made = &of_tables[0];
-            put_receipt(sink, page, app, &made.receipt);
+            put_receipt(sink, page, app, &other.receipt);
             of_tables = &of_tables[1..];
         }
     }
+    put_all(sink, page, app, of_bus);
+    put_all(sink, page, app, of_tables);
 }
 
-// Whether the next receipt is one of the bus, where these are left.
-fn is_of_bus(bus: &[MadeReceipt], tables: &[MadeReceipt]) -> bool
-    ensures { result ≡ is_of_bus bus.now tables.now }
+// Puts these receipts of an application.
+fn put_all<K: Sink>(
+    sink: &mut SinkGuard<'_, K>,
+    page: &mut Page,
+    app: usize,
+    made: &[MadeReceipt],
+)
+    ensures { Puts sink.old sink.new page.old page.new
+        (application_text app (receipts_in made.now)) }
 {
-    match (bus.first(), tables.first()) {
-        (Some(made), Some(other)) => made.place < other.place,
-        (Some(_), None) => true,
-        (None, _) => false,
+    for i in 0..made.len() {
+        let one = &made[i];
+        put_receipt(sink, page, app, &one.receipt);
     }
 }
