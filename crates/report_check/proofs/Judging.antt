@@ -1,6 +1,9 @@
 -- What was judged of a report is the answer on it.
-use Rattle.std.proofs.Common.{◌≡◌, ℕ, ◌+◌, Bool, true, false, List, [], ◌++◌, length, codes, Result, Ok, Err, IfOk, refl, ap, sym, ◌∙◌, subst, arith, append_assoc, append-nil}
+use Rattle.std.proofs.Common.{◌≡◌, ℕ, ◌+◌, ◌-◌, ◌≤◌, Bool, true, false, List, [], ◌++◌, length, codes, Option, Some, None, Result, Ok, Err, IfOk, refl, ap, sym, ◌∙◌, subst, arith, append_assoc, append-nil}
+use Rattle.std.specs.Prelude.{slice_get}
+use Rattle.std.specs.Option.{option_map}
 use Rattle.std.proofs.lemmas.List.{append_cancel_left}
+use Rattle.std.proofs.lemmas.Option.{slice_get_within}
 use Rattle.bus_words.specs.declared.history.Entry.{Entry}
 use Rattle.tbl_words.specs.declared.history.Entry.{Entry as TableEntry}
 use Rattle.run_report.specs.TableText.{table_entries_text}
@@ -16,11 +19,14 @@ use Rattle.run_check.specs.Checks.{IsAnswer}
 use Rattle.run_check.specs.Fronts.{line_ends, wrong_line}
 use Rattle.run_check.specs.Judged.{Begins, NoHead, NoTables, Right, WrongEnd, entries_part}
 use Rattle.run_check.specs.Openings.{bus_part, head, report}
+use Rattle.run_check.specs.Places.{Place, place_after}
+use Rattle.run_check.specs.TablePlaces.{table_place_after}
 use Rattle.run_check.proofs.Judgements.{judged_is_answered}
 use Rattle.replay_parts.specs.Compared.{Compared, GoesPast, Takes}
 use Rattle.replay_parts.proofs.Passing.{goes_past_both, wrong_behind}
 use Rattle.bus_replay.specs.Replayed.{AreWholeLines}
-use Rattle.bus_replay.specs.Replays.{IsReplayed, Replay}
+use Rattle.bus_replay.specs.Places.{Kept, place_of}
+use Rattle.bus_replay.specs.Replays.{IsReplayed, IsUnderWay, Replay}
 use Rattle.table_replay.specs.Replayed.{AreWholeLines as AreTableLines}
 use Rattle.table_replay.specs.Replays.{IsReplayed as AreReplayed, Replay as TableReplay}
 use Rattle.report_check.specs.Tails.{tail_kept}
@@ -183,3 +189,27 @@ head_there script bytes from to text there new is found takes =
 pub if_ok_more : {T E : Type 0} {P Q : T → Type 0} (r : Result T E) → ((x : T) → P x → Q x) → IfOk r P → IfOk r Q
 if_ok_more (Ok x) more holds = more x holds
 if_ok_more (Err e) more holds = tt
+
+-- a place that is told of is there
+there_is : (o : Option Kept) (p : Place) → option_map place_of o ≡ Some p → (k : Kept) × (o ≡ Some k)
+there_is None p is = absurd (cc is)
+there_is (Some k) p is = (k, refl)
+
+-- each application has a place
+pub bus_places : (script : ScriptText) (r : Replay) → IsUnderWay r → r.script ≡ script → 1 ≤ length script.apps → length script.apps ≤ length r.places
+bus_places script r (history, at) same some =
+    let n = length r.script.apps in
+    let apps : length r.script.apps ≡ length script.apps = ap (λ (s : ScriptText). length s.apps) same in
+    let found = there_is (slice_get r.places (n - 1)) (place_after r.script n history) (at.places n (omega (arith, apps, some)) (omega arith)) in
+    omega (arith, apps, some, slice_get_within r.places (n - 1) found.0 found.1)
+
+pub table_places : (script : ScriptText) (t : TableReplay) (history : List TableEntry) → AreReplayed history t → t.script ≡ script → 1 ≤ length script.apps → length script.apps ≤ length t.places
+table_places script t history at same some =
+    let n = length t.script.apps in
+    let apps : length t.script.apps ≡ length script.apps = ap (λ (s : ScriptText). length s.apps) same in
+    let found = at.places n (omega (arith, apps, some)) (omega arith) in
+    omega (arith, apps, some, slice_get_within t.places (n - 1) (table_place_after t.script n history) found)
+
+-- a replay that is past the lines on the bus is behind their history
+pub under_way : (script : ScriptText) (at to : Compared) (r : Replay) → AreWholeLines script at to r → IsUnderWay r
+under_way script at to r lines = (lines.history, lines.replayed)

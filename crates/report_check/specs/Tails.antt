@@ -15,6 +15,7 @@ use Rattle.run_check.specs.TablePlaces.{TablePlace}
 use Rattle.bus_replay.specs.Places.{Kept}
 use Rattle.bus_replay.specs.Replays.{Replay}
 use Rattle.table_replay.specs.Replays.{Replay as TableReplay}
+use Rattle.report_check.specs.declared.tail.TablesShown.{TablesShown}
 
 -- what an application's lines made of the bus, where all applications are at these places
 abbrev pub made_of_bus : List Kept → ℕ → List Made
@@ -38,6 +39,10 @@ table_figures_kept r = record {
   peak = r.peak;
   pool = account_of r.limits r.state;
 }
+
+-- what is read off the tables, as a report shows it
+abbrev pub figures_of : TablesShown → TableFigures
+figures_of shown = record { now = shown.in_use; peak = shown.peak; pool = shown.pool }
 
 -- the lines of a report behind those on the tables
 abbrev pub tail_text : List (List Receipt) → BusFigures → TableFigures → List ℕ

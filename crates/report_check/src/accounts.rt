@@ -86,8 +86,9 @@ pub(crate) fn put_accounts<K: Sink>(
     requires { length accounts.now < 2 ^ 32 }
     ensures { Puts sink.old sink.new page.old page.new (accounts_text accounts.now) }
 {
-    for i in 0..accounts.len() {
-        let name = PoolName::Applications(i as u32 + 1);
-        put_account(sink, page, name, &ShownAccount::new(&accounts[i]));
+    let count = accounts.len() as u32;
+    for i in 0..count {
+        let shown = ShownAccount::new(&accounts[i as usize]);
+        put_account(sink, page, PoolName::Applications(i + 1), &shown);
     }
 }

@@ -89,12 +89,7 @@ fn put_merged<K: Sink>(
 }
 
 // Puts these receipts of an application.
-fn put_all<K: Sink>(
-    sink: &mut SinkGuard<'_, K>,
-    page: &mut Page,
-    app: usize,
-    made: &[MadeReceipt],
-)
+fn put_all<K: Sink>(sink: &mut SinkGuard<'_, K>, page: &mut Page, app: usize, made: &[MadeReceipt])
     ensures { Puts sink.old sink.new page.old page.new
         (application_text app (receipts_in made.now)) }
 {

@@ -5,7 +5,7 @@ ghost use Rattle.pool_words.specs.Grants.{pool_account};
 ghost use Rattle.list_bus.specs.Played.{IsPlayed};
 ghost use Rattle.text_page.specs.Pieces.{CutShort, Grew, Puts};
 ghost use Rattle.run_report.specs.Report.{ending_text, figures_shown};
-ghost use Rattle.report_check.specs.Tails.{table_figures_kept, tail_kept};
+ghost use Rattle.report_check.specs.Tails.{figures_of, table_figures_kept, tail_kept};
 
 use crate::accounts::{ShownAccount, accounts_of, put_accounts};
 use crate::merged::put_receipts;
@@ -16,28 +16,19 @@ use list_pool::ListAccount;
 use replay_parts::KeptText;
 use run_report::{PoolName, put_account, put_counts, put_desk, put_log, put_table_uses, put_uses};
 use std::alloc::{AllocError, Global};
-use std::marker::Model;
 use table_replay::TableReplay;
 use tbl_words::TblUse;
 use text_page::{Page, finish, put};
 
-// What is shown of the tables.
+/// What is shown of the tables.
 #[derive(Drop)]
-struct TablesShown {
-    // What is in use now.
-    in_use: TblUse,
-    // The greatest numbers that were in use.
-    peak: TblUse,
-    // The account of their pool.
-    pool: ListAccount,
-}
-
-impl Model for TablesShown {
-    ghost use Rattle.run_report.specs.CounterText.{TableFigures};
-
-    ghost Value = { TableFigures };
-
-    ghost view = { λ t. record { now = t.in_use; peak = t.peak; pool = t.pool } };
+pub(crate) struct TablesShown {
+    /// What is in use now.
+    pub(crate) in_use: TblUse,
+    /// The greatest numbers that were in use.
+    pub(crate) peak: TblUse,
+    /// The account of their pool.
+    pub(crate) pool: ListAccount,
 }
 
 /// The end of the report of a run of so many applications that was played again: its lines from
@@ -71,7 +62,7 @@ pub(crate) fn tail_of(
 
 // What is shown of the tables.
 fn tables_shown(alloc: Global, tables: &TableReplay<'_>) -> Result<TablesShown, AllocError>
-    ensures { IfOk result (λ shown. shown ≡ table_figures_kept tables.now) }
+    ensures { IfOk result (λ shown. figures_of shown ≡ table_figures_kept tables.now) }
 {
     let in_use = tables.tables().in_use()?;
     let pool = tables.tables().account(alloc)?;
@@ -97,7 +88,7 @@ fn write_tail<K: Sink>(
     requires tables { apps ≤ length tables.now.places }
     requires played { IsPlayed bus.now.played }
     requires accounts { accounts.now ≡ map pool_account bus.now.played.whole.bus.pools.pools }
-    requires shown { shown.now ≡ table_figures_kept tables.now }
+    requires shown { figures_of shown.now ≡ table_figures_kept tables.now }
     ensures ok { OnOk result (Grew sink.old.written sink.new.written
         (tail_kept apps bus.now tables.now)) }
     ensures none_failed { OnOk result (sink.new.failed ≡ false) }
@@ -124,7 +115,7 @@ fn put_ending<K: Sink>(
     requires played { IsPlayed bus.now }
     requires accounts { accounts.now ≡ map pool_account bus.now.whole.bus.pools.pools }
     ensures { Puts sink.old sink.new page.old page.new
-        (ending_text (figures_shown bus.now.limits bus.now.whole.bus) tables.entry.now) }
+        (ending_text (figures_shown bus.now.limits bus.now.whole.bus) (figures_of tables.now)) }
 {
     let _ = bus.pools().count();
     put(sink, page, b"counters\n");

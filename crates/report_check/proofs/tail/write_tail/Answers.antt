@@ -4,7 +4,7 @@ use Rattle.list_bus.specs.Played.{Played}
 use Rattle.run_report.specs.EventText.{log_text}
 use Rattle.run_report.specs.Report.{ending_text, figures_shown}
 use Rattle.text_page.proofs.PieceTexts.{◌▸◌, on_ok_both, puts_as, puts_whole}
-use Rattle.report_check.specs.Tails.{table_figures_kept, tail_kept}
+use Rattle.report_check.specs.Tails.{figures_of, table_figures_kept, tail_kept}
 use Rattle.report_check.proofs.tail.write_tail.Goals as goal
 
 pub returns : goal.returns
@@ -14,7 +14,7 @@ returns g c =
     let desk : c.desk.result.now ≡ bus.played.whole.bus.events = c.desk.ensures ∙ ap (λ (p : Played). p.whole.bus.events) c.bus.ensures in
     let log = puts_as _ (ap (λ (d : Desk). log_text d.log) desk) c.put_log.ensures in
     let ending = puts_as (ending_text (figures_shown bus.played.limits bus.played.whole.bus) (table_figures_kept c.args.tables.now))
-    (ap (λ (p : Played). ending_text (figures_shown p.limits p.whole.bus) c.args.shown.now) c.bus-2.ensures
+    (ap (λ (p : Played). ending_text (figures_shown p.limits p.whole.bus) (figures_of c.args.shown.now)) c.bus-2.ensures
     ∙ ap (ending_text (figures_shown bus.played.limits bus.played.whole.bus)) c.requires.shown) c.put_ending.ensures in
     let all = puts_as text (append-nil text) (c.put.ensures ▸ c.put_receipts.ensures ▸ c.put-2.ensures ▸ log ▸ ending ▸ c.finish.ensures.puts) in
     let blank = c.new-page.ensures in
