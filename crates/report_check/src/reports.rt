@@ -40,6 +40,7 @@ pub fn check(alloc: Global, script: &Script, report: &[u8]) -> Result<Verdict, A
 fn head_of(script: &Script) -> &'static [u8]
     ensures { result.now ≡ head script.now }
 {
+    script.recall_ranges();
     if script.config().version == 2 {
         b"fsw 2\nbus\n"
     } else {
