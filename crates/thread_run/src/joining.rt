@@ -19,7 +19,7 @@ use bus_words::ReceiptList;
 use tbl_service::{Tables, TblMain};
 
 /// Joins what is left of all applications, and closes both services.
-pub(crate) fn close_all<'r>(
+pub fn close_all<'r>(
     script: &Script,
     opened: OpenServices<'r>,
     dones: Vec<Done>,

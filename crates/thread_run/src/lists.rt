@@ -34,10 +34,10 @@ pub(crate) fn take_last<'s, 'r>(
 
 /// Puts an application that was begun behind those of smaller numbers.
 pub(crate) fn note_begun<'e, 'r>(
-    begun: &mut Vec<Begun<Ends<'e, 'r>>>,
+    begun: &mut Vec<Begun<Done, Ends<'e, 'r>>>,
     _shared: RunParts<'_, 'r>,
     _app: AppNo,
-    one: Begun<Ends<'e, 'r>>,
+    one: Begun<Done, Ends<'e, 'r>>,
 )
     requires room { length begun.old.items < vec_capacity begun.old }
     requires begun { Numbered (IsBegun _shared.script.now _shared.bus.now _shared.tables.now) 1
@@ -54,9 +54,9 @@ pub(crate) fn note_begun<'e, 'r>(
 
 /// Takes the application of the greatest number that was begun; None where none is left.
 pub(crate) fn take_last_begun<'e, 'r>(
-    begun: &mut Vec<Begun<Ends<'e, 'r>>>,
+    begun: &mut Vec<Begun<Done, Ends<'e, 'r>>>,
     _shared: RunParts<'_, 'r>,
-) -> Option<Begun<Ends<'e, 'r>>>
+) -> Option<Begun<Done, Ends<'e, 'r>>>
     requires begun { Numbered (IsBegun _shared.script.now _shared.bus.now _shared.tables.now) 1
         begun.old.items }
     ensures some { IfSome result

@@ -8,30 +8,32 @@ use crate::works::{RunParts, Work};
 use app_run::{Blocks, Regions, Runner, budgets_of, recall_limits};
 use app_script::Script;
 use bus_service::{Bus, BusMain};
-use fsw_base::AppNo;
+use fsw_base::{AppNo, Budget};
 use std::alloc::{AllocError, Global};
 use tbl_service::{Tables, TblMain};
 
 /// Both services before their first call, with their main parts.
 #[derive(Drop)]
-pub(crate) struct OpenServices<'r> {
+pub struct OpenServices<'r> {
     /// The software bus.
-    pub(crate) bus: Bus<'r>,
+    pub bus: Bus<'r>,
     /// Its main part.
-    pub(crate) bus_main: BusMain,
+    pub bus_main: BusMain,
     /// Table Services.
-    pub(crate) tables: Tables<'r>,
+    pub tables: Tables<'r>,
     /// Their main part.
-    pub(crate) tables_main: TblMain,
+    pub tables_main: TblMain,
 }
 
-/// Takes the memory of both services.
+/// Takes the memory of both services, for the script's applications and for those that run beside
+/// them, which have these budgets and the numbers behind the script's.
 ///
 /// # Errors
 /// Where memory runs out.
-pub(crate) fn open_services<'r>(
+pub fn open_services<'r>(
     alloc: Global,
     script: &Script,
+    beside: &[Budget],
     regions: &'r mut Regions,
 ) -> Result<OpenServices<'r>, AllocError>
     requires { HaveRoom regions.old script.now.limits }
@@ -40,7 +42,8 @@ pub(crate) fn open_services<'r>(
         (λ opened. AreOpen script.now opened.tables 0 opened.tables_main) }
 {
     script.recall_ranges();
-    let budgets = budgets_of(alloc, script)?;
+    let mut budgets = budgets_of(alloc, script)?;
+    budgets.extend_from_slice(beside)?;
     let Blocks { pool, tables, work } = regions.blocks_mut();
     let (bus, bus_main) = Bus::new(alloc, script.config(), &budgets, pool)?;
     let (tables, tables_main) = Tables::new(alloc, script.config(), &budgets, tables, work)?;
@@ -57,7 +60,7 @@ pub(crate) fn open_services<'r>(
 ///
 /// # Errors
 /// Where memory runs out.
-pub(crate) fn open_works<'e, 'r>(
+pub fn open_works<'e, 'r>(
     alloc: Global,
     shared: RunParts<'e, 'r>,
     bus_main: &mut BusMain,

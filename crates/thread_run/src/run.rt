@@ -66,7 +66,7 @@ pub fn run_threads<'r, R: Threads + Wait + Sync, G: Gate>(
         mut bus_main,
         tables,
         mut tables_main,
-    } = open_services(alloc, script, regions)?;
+    } = open_services(alloc, script, &[], regions)?;
     let receipts = Vec::with_capacity(alloc, script.apps() as usize)?;
     let shared = RunParts {
         script,

@@ -15,11 +15,11 @@ use std::thread::{Scope, Threads};
 /// The lists of the applications that were begun, and of those that are through, each with room for
 /// all of a run: they are made before the first thread is started.
 #[derive(Drop)]
-pub(crate) struct Lists<'e, 'r> {
+pub struct Lists<'e, 'r> {
     /// Those that were begun.
-    pub(crate) begun: Vec<Begun<Ends<'e, 'r>>>,
+    pub begun: Vec<Begun<Done, Ends<'e, 'r>>>,
     /// What is left of those that are through.
-    pub(crate) dones: Vec<Done>,
+    pub dones: Vec<Done>,
 }
 
 impl<'e, 'r> Lists<'e, 'r> {
@@ -27,7 +27,7 @@ impl<'e, 'r> Lists<'e, 'r> {
     ///
     /// # Errors
     /// Where memory runs out.
-    pub(crate) fn new(alloc: Global, apps: usize) -> Result<Lists<'e, 'r>, AllocError>
+    pub fn new(alloc: Global, apps: usize) -> Result<Lists<'e, 'r>, AllocError>
         ensures { IfOk result (λ lists. HaveRoomFor apps lists) }
     {
         Ok(Lists {
@@ -113,20 +113,21 @@ fn run_in<'s, 'x, 'e: 's, 'r: 's, R: Threads + Wait + Sync, G: Gate>(
         mut begun,
         mut dones,
     } = lists;
-    let all = begin_rest(scope, rt, gate, shared, &mut works, &mut begun);
-    end_rest(rt, shared, &mut begun, &mut dones, &all);
+    let all = begin_all(scope, rt, gate, shared, &mut works, &mut begun);
+    end_all(rt, shared, &mut begun, &mut dones, &all);
     dones
 }
 
-// Starts the applications that are left, that of the greatest number first; and once all are
-// started, runs here those whose thread couldn't be started, in order of number.
-fn begin_rest<'s, 'x, 'e: 's, 'r: 's, R: Threads + Wait + Sync, G: Gate>(
+/// Starts the applications that are left, each on a thread of the scope, that of the greatest number
+/// first; and once all are started, runs here those whose thread couldn't be started, in order of
+/// number.
+pub fn begin_all<'s, 'x, 'e: 's, 'r: 's, R: Threads + Wait + Sync, G: Gate>(
     scope: &'s Scope<'s, &'x ()>,
     rt: &'e R,
     gate: &'e G,
     shared: RunParts<'e, 'r>,
     works: &mut Vec<Work<'e, 'r>>,
-    begun: &mut Vec<Begun<Ends<'e, 'r>>>,
+    begun: &mut Vec<Begun<Done, Ends<'e, 'r>>>,
 ) -> AllStarted
     requires works { Numbered (MayWork shared.script.now shared.bus.now shared.tables.now) 1
         works.old.items }
@@ -151,17 +152,17 @@ fn begin_rest<'s, 'x, 'e: 's, 'r: 's, R: Threads + Wait + Sync, G: Gate>(
                 job.work.runner.running.app job.work }
         { run_one(rt, gate, job) },
     );
-    let all = begin_rest(scope, rt, gate, shared, works, begun);
+    let all = begin_all(scope, rt, gate, shared, works, begun);
     let one = start.begin(&all);
     note_begun(begun, shared, app, one);
     all
 }
 
-// Waits for the ends of those that are left, in order of number.
-fn end_rest<'e, 'r, R: Threads>(
+/// Waits for the ends of those that are left, in order of number.
+pub fn end_all<'e, 'r, R: Threads>(
     rt: &R,
     shared: RunParts<'_, 'r>,
-    begun: &mut Vec<Begun<Ends<'e, 'r>>>,
+    begun: &mut Vec<Begun<Done, Ends<'e, 'r>>>,
     dones: &mut Vec<Done>,
     all: &AllStarted,
 )
@@ -177,7 +178,7 @@ fn end_rest<'e, 'r, R: Threads>(
     let Some(one) = take_last_begun(begun, shared) else {
         return;
     };
-    end_rest(rt, shared, begun, dones, all);
+    end_all(rt, shared, begun, dones, all);
     let done = one.end(rt, all);
     note_done(dones, shared, done);
 }

@@ -26,45 +26,45 @@ use tbl_service::{Tables, TblDone, TblPort};
 
 /// What all applications of a run share: the script, and both services.
 #[derive(Clone, Copy)]
-pub(crate) struct RunParts<'e, 'r> {
+pub struct RunParts<'e, 'r> {
     /// The script.
-    pub(crate) script: &'e Script,
+    pub script: &'e Script,
     /// The software bus.
-    pub(crate) bus: &'e Bus<'r>,
+    pub bus: &'e Bus<'r>,
     /// Table Services.
-    pub(crate) tables: &'e Tables<'r>,
+    pub tables: &'e Tables<'r>,
 }
 
 /// What an application takes along to its thread.
 #[derive(Drop)]
-pub(crate) struct Work<'s, 'r> {
+pub struct Work<'s, 'r> {
     /// How far it has come.
-    pub(crate) runner: Runner<'s>,
+    pub runner: Runner<'s>,
     /// Its port of the bus.
-    pub(crate) port: BusPort<'r>,
+    pub port: BusPort<'r>,
     /// Its port of the tables.
-    pub(crate) tables_port: TblPort<'r>,
+    pub tables_port: TblPort<'r>,
 }
 
 /// What is left of an application that is through. It names no lifetime, so a thread may promise
 /// it.
 #[derive(Drop)]
-pub(crate) struct Done {
+pub struct Done {
     /// Its port of the bus, finished.
-    pub(crate) port: BusDone,
+    pub port: BusDone,
     /// Its port of the tables, finished.
-    pub(crate) tables_port: TblDone,
+    pub tables_port: TblDone,
     /// Its receipts.
-    pub(crate) receipts: ReceiptList,
+    pub receipts: ReceiptList,
 }
 
 /// A thread's promise: the application ends, and its entries and receipts are those of its lines.
 #[derive(Clone, Copy)]
-pub(crate) struct Ends<'e, 'r> {
+pub struct Ends<'e, 'r> {
     /// What it shares with the others.
-    pub(crate) shared: RunParts<'e, 'r>,
+    pub shared: RunParts<'e, 'r>,
     /// The application.
-    pub(crate) app: AppNo,
+    pub app: AppNo,
 }
 
 impl<'e, 'r> Promise<Done> for Ends<'e, 'r> {

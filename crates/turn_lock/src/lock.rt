@@ -233,6 +233,35 @@ impl<T: Historied> TurnLock<T> {
         *main = Seat::of(place);
     }
 
+    /// Has the main seat, to which no seat was joined, see what a seat has seen. It keeps the longer
+    /// of the two histories, which has no entries but those of applications that were split off, and
+    /// of the seat's application none but those that the seat made. The seat knows what it knew,
+    /// and the fixed part by the main seat.
+    pub fn meet(&self, main: &mut Seat<T::Fixed, T::Event>, seat: &mut Seat<T::Fixed, T::Event>)
+        requires main { IsMain main.old self.now.name }
+        requires none { (view_of main.old).ended ≡ [] }
+        requires seat { IsReady seat.old self.now.name }
+        ensures main { IsMain main.new self.now.name }
+        ensures seen { KeepsLonger (view_of main.old).seen (view_of seat.old).seen
+            (view_of main.new).seen }
+        ensures same { view_of main.new ≡
+            record (view_of main.old) { seen = (view_of main.new).seen } }
+        ensures others { (app : ℕ) → ¬ (Contains (view_of main.new).apps app)
+            → entries_of app (view_of main.new).seen ≡ [] }
+        ensures own { IsPrefix
+            (entries_of (view_of seat.old).app (view_of main.new).seen)
+            (view_of seat.old).mine }
+        ensures seat { IsReady seat.new self.now.name }
+        ensures stays { view_of seat.new ≡
+            record (view_of seat.old) { fixed = (view_of main.old).fixed } }
+    {
+        let mut place = main.take_place();
+        self.board.glue(&mut place, seat.take_place());
+        self.board.meet(&mut place);
+        *seat = Seat::of(self.board.resume(&mut place));
+        *main = Seat::of(place);
+    }
+
     /// Ends the lock, whose seats have all been joined, and answers its value. The value has the
     /// fixed part of the opening. Its history extends all that the main seat has seen, has of each
     /// application just the entries of its ended seat, in order, and has no others.

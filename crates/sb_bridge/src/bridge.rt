@@ -1,0 +1,161 @@
+//! The bridge, on its thread.
+
+use bus_service::{Bus, BusDone, BusPort};
+use sb_calls::Pended;
+use std::sync::Wait;
+use std::thread::Promise;
+use tbl_service::{TblDone, TblPort};
+use thread_run::RunParts;
+
+/// What the bridge takes along to its thread.
+#[derive(Drop)]
+pub(crate) struct BridgeWork<'r> {
+    /// Its pipe on side 1.
+    pub(crate) pipe: u32,
+    /// Its port of the bus of side 1.
+    pub(crate) from: BusPort<'r>,
+    /// Its port of the tables of side 1.
+    pub(crate) from_tables: TblPort<'r>,
+    /// Its port of the bus of side 2.
+    pub(crate) to: BusPort<'r>,
+    /// Its port of the tables of side 2.
+    pub(crate) to_tables: TblPort<'r>,
+}
+
+/// What is left of the bridge. It names no lifetime, so a thread may promise it.
+#[derive(Drop)]
+pub(crate) struct BridgeDone {
+    /// Its port of the bus of side 1, finished.
+    pub(crate) from: BusDone,
+    /// Its port of the tables of side 1, finished.
+    pub(crate) from_tables: TblDone,
+    /// Its port of the bus of side 2, finished.
+    pub(crate) to: BusDone,
+    /// Its port of the tables of side 2, finished.
+    pub(crate) to_tables: TblDone,
+}
+
+/// The bridge's run, as its thread is given it: in one value, which the thread's closure moves
+/// whole.
+#[derive(Drop)]
+pub(crate) struct BridgeJob<'e, 'r> {
+    /// What runs on side 1.
+    pub(crate) one: RunParts<'e, 'r>,
+    /// What runs on side 2.
+    pub(crate) two: RunParts<'e, 'r>,
+    /// What it takes along.
+    pub(crate) work: BridgeWork<'r>,
+}
+
+/// A thread's promise: what the bridge sent is what its pipe gave, each once and in order.
+#[derive(Clone, Copy)]
+pub(crate) struct BridgeEnds<'e, 'r> {
+    /// What runs on side 1.
+    pub(crate) one: RunParts<'e, 'r>,
+    /// What runs on side 2.
+    pub(crate) two: RunParts<'e, 'r>,
+    /// The bridge's pipe on side 1.
+    pub(crate) pipe: u32,
+}
+
+impl<'e, 'r> Promise<BridgeDone> for BridgeEnds<'e, 'r> {
+    ghost use Rattle.std.specs.Prelude.{Unit};
+
+    ghost kept_by = { λ _ _. Unit {0} };
+}
+
+/// Runs the bridge to its end, on the thread that calls this: it takes each message from its pipe
+/// and sends it on side 2. At the first time-out it ends on side 1, and then on side 2. It may wait
+/// for others' turns and for messages.
+pub(crate) fn run_one<'e, 'r, R: Wait>(rt: &R, job: BridgeJob<'e, 'r>) -> BridgeDone {
+    let BridgeJob { one, two, work } = job;
+    let BridgeWork {
+        pipe,
+        mut from,
+        mut from_tables,
+        mut to,
+        mut to_tables,
+    } = work;
+    for _ in rt.forever() {
+        let goes_on = has_entries(&from)
+            && take_next(rt, one.bus, &mut from, pipe)
+            && forward(rt, &from, pipe, two.bus, &mut to);
+        if !goes_on {
+            from_tables.end(one.tables, rt);
+            from.end(one.bus, rt);
+            to_tables.end(two.tables, rt);
+            to.end(two.bus, rt);
+            return BridgeDone {
+                from: from.finish(),
+                from_tables: from_tables.finish(),
+                to: to.finish(),
+                to_tables: to_tables.finish(),
+            };
+        }
+    }
+    unreachable!()
+}
+
+// Whether the budget of side 1 has entries for a wait, a look and the end. It has: there are no
+// more messages than the lines of side 1 send. A port can't know that, since it sees what others
+// may add and not what their lines do.
+fn has_entries(from: &BusPort<'_>) -> bool
+{
+    3 <= from.entries_left()
+}
+
+// Whether the budget of side 2 has entries for a send and the end, and the message's bytes. It has,
+// for the same reason.
+fn has_room(to: &BusPort<'_>, message: &[u8]) -> bool
+{
+    2 <= to.entries_left() && message.len() <= to.bytes_left() as usize
+}
+
+// Takes the next message from the bridge's pipe, which is then the pipe's last, and waits for it;
+// false at a time-out.
+fn take_next<'r, R: Wait>(rt: &R, bus: &Bus<'r>, from: &mut BusPort<'r>, pipe: u32) -> bool
+{
+    match from.pend(bus, rt, pipe) {
+        Ok(Pended::Got(_)) => true,
+        Ok(Pended::TimeOut) => false,
+        Ok(Pended::Pending) => look_on(rt, bus, from),
+        // The pipe is the bridge's own.
+        Err(_) => unreachable!(),
+    }
+}
+
+// Looks again while the bridge waits.
+fn look_on<'r, R: Wait>(rt: &R, bus: &Bus<'r>, from: &mut BusPort<'r>) -> bool {
+    for _ in rt.forever() {
+        match from.look(bus, rt) {
+            Pended::Got(_) => return true,
+            Pended::TimeOut => return false,
+            Pended::Pending => {}
+        }
+    }
+    unreachable!()
+}
+
+// Sends the pipe's last message on side 2, with the count that it has. A refusal stands in the
+// history there, and the message is not sent again. False where the budget has no room for it, and
+// nothing is sent.
+fn forward<'r, R: Wait>(
+    rt: &R,
+    from: &BusPort<'r>,
+    pipe: u32,
+    bus: &Bus<'r>,
+    to: &mut BusPort<'r>,
+) -> bool
+{
+    match from.last(pipe) {
+        Some(message) => {
+            let fits = has_room(to, message);
+            if fits {
+                let _ = to.transmit(bus, rt, message, false);
+            }
+            fits
+        }
+        // A message was taken, and is the last.
+        None => unreachable!(),
+    }
+}
