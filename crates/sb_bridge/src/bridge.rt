@@ -7,32 +7,31 @@ use std::thread::Promise;
 use tbl_service::{TblDone, TblPort};
 use thread_run::RunParts;
 
-/// What the bridge takes along to its thread.
+/// The bridge's ports of a side.
 #[derive(Drop)]
-pub(crate) struct BridgeWork<'r> {
-    /// Its pipe on side 1.
-    pub(crate) pipe: u32,
-    /// Its port of the bus of side 1.
-    pub(crate) from: BusPort<'r>,
-    /// Its port of the tables of side 1.
-    pub(crate) from_tables: TblPort<'r>,
-    /// Its port of the bus of side 2.
-    pub(crate) to: BusPort<'r>,
-    /// Its port of the tables of side 2.
-    pub(crate) to_tables: TblPort<'r>,
+pub(crate) struct BridgePorts<'r> {
+    /// Of the bus.
+    pub(crate) port: BusPort<'r>,
+    /// Of the tables.
+    pub(crate) tables_port: TblPort<'r>,
+}
+
+/// What is left of them, finished.
+#[derive(Drop)]
+pub(crate) struct EndedPorts {
+    /// Of the port of the bus.
+    pub(crate) port: BusDone,
+    /// Of that of the tables.
+    pub(crate) tables_port: TblDone,
 }
 
 /// What is left of the bridge. It names no lifetime, so a thread may promise it.
 #[derive(Drop)]
 pub(crate) struct BridgeDone {
-    /// Its port of the bus of side 1, finished.
-    pub(crate) from: BusDone,
-    /// Its port of the tables of side 1, finished.
-    pub(crate) from_tables: TblDone,
-    /// Its port of the bus of side 2, finished.
-    pub(crate) to: BusDone,
-    /// Its port of the tables of side 2, finished.
-    pub(crate) to_tables: TblDone,
+    /// On side 1.
+    pub(crate) from: EndedPorts,
+    /// On side 2.
+    pub(crate) to: EndedPorts,
 }
 
 /// The bridge's run, as its thread is given it: in one value, which the thread's closure moves
@@ -43,8 +42,12 @@ pub(crate) struct BridgeJob<'e, 'r> {
     pub(crate) one: RunParts<'e, 'r>,
     /// What runs on side 2.
     pub(crate) two: RunParts<'e, 'r>,
-    /// What it takes along.
-    pub(crate) work: BridgeWork<'r>,
+    /// The bridge's pipe on side 1.
+    pub(crate) pipe: u32,
+    /// Its ports of side 1.
+    pub(crate) from: BridgePorts<'r>,
+    /// Its ports of side 2.
+    pub(crate) to: BridgePorts<'r>,
 }
 
 /// A thread's promise: what the bridge sent is what its pipe gave, each once and in order.
@@ -58,6 +61,17 @@ pub(crate) struct BridgeEnds<'e, 'r> {
     pub(crate) pipe: u32,
 }
 
+impl<'e, 'r> BridgeJob<'e, 'r> {
+    /// What its thread promises.
+    pub(crate) fn ends(&self) -> BridgeEnds<'e, 'r> {
+        BridgeEnds {
+            one: self.one,
+            two: self.two,
+            pipe: self.pipe,
+        }
+    }
+}
+
 impl<'e, 'r> Promise<BridgeDone> for BridgeEnds<'e, 'r> {
     ghost use Rattle.std.specs.Prelude.{Unit};
 
@@ -68,53 +82,57 @@ impl<'e, 'r> Promise<BridgeDone> for BridgeEnds<'e, 'r> {
 /// and sends it on side 2. At the first time-out it ends on side 1, and then on side 2. It may wait
 /// for others' turns and for messages.
 pub(crate) fn run_one<'e, 'r, R: Wait>(rt: &R, job: BridgeJob<'e, 'r>) -> BridgeDone {
-    let BridgeJob { one, two, work } = job;
-    let BridgeWork {
+    let BridgeJob {
+        one,
+        two,
         pipe,
         mut from,
-        mut from_tables,
         mut to,
-        mut to_tables,
-    } = work;
+    } = job;
     for _ in rt.forever() {
-        let goes_on = has_entries(&from)
-            && take_next(rt, one.bus, &mut from, pipe)
-            && forward(rt, &from, pipe, two.bus, &mut to);
+        let goes_on = has_entries(&from.port)
+            && take_next(rt, one.bus, &mut from.port, pipe)
+            && forward(rt, &from.port, pipe, two.bus, &mut to.port);
         if !goes_on {
-            from_tables.end(one.tables, rt);
-            from.end(one.bus, rt);
-            to_tables.end(two.tables, rt);
-            to.end(two.bus, rt);
             return BridgeDone {
-                from: from.finish(),
-                from_tables: from_tables.finish(),
-                to: to.finish(),
-                to_tables: to_tables.finish(),
+                from: end_ports(rt, one, from),
+                to: end_ports(rt, two, to),
             };
         }
     }
     unreachable!()
 }
 
+// Ends on a side, at the tables first and then at the bus.
+fn end_ports<'r, R: Wait>(
+    rt: &R,
+    shared: RunParts<'_, 'r>,
+    mut ports: BridgePorts<'r>,
+) -> EndedPorts {
+    ports.tables_port.end(shared.tables, rt);
+    ports.port.end(shared.bus, rt);
+    EndedPorts {
+        port: ports.port.finish(),
+        tables_port: ports.tables_port.finish(),
+    }
+}
+
 // Whether the budget of side 1 has entries for a wait, a look and the end. It has: there are no
 // more messages than the lines of side 1 send. A port can't know that, since it sees what others
 // may add and not what their lines do.
-fn has_entries(from: &BusPort<'_>) -> bool
-{
+fn has_entries(from: &BusPort<'_>) -> bool {
     3 <= from.entries_left()
 }
 
 // Whether the budget of side 2 has entries for a send and the end, and the message's bytes. It has,
 // for the same reason.
-fn has_room(to: &BusPort<'_>, message: &[u8]) -> bool
-{
+fn has_room(to: &BusPort<'_>, message: &[u8]) -> bool {
     2 <= to.entries_left() && message.len() <= to.bytes_left() as usize
 }
 
 // Takes the next message from the bridge's pipe, which is then the pipe's last, and waits for it;
 // false at a time-out.
-fn take_next<'r, R: Wait>(rt: &R, bus: &Bus<'r>, from: &mut BusPort<'r>, pipe: u32) -> bool
-{
+fn take_next<'r, R: Wait>(rt: &R, bus: &Bus<'r>, from: &mut BusPort<'r>, pipe: u32) -> bool {
     match from.pend(bus, rt, pipe) {
         Ok(Pended::Got(_)) => true,
         Ok(Pended::TimeOut) => false,
@@ -145,8 +163,7 @@ fn forward<'r, R: Wait>(
     pipe: u32,
     bus: &Bus<'r>,
     to: &mut BusPort<'r>,
-) -> bool
-{
+) -> bool {
     match from.last(pipe) {
         Some(message) => {
             let fits = has_room(to, message);

@@ -1,52 +1,32 @@
-//! Opens a side of the bridge, and makes the bridge's first calls.
+//! The bridge's ports, and its first calls.
 
-use app_run::Regions;
-use app_script::Script;
+use crate::bridge::BridgePorts;
 use bridge_plan::BridgePlan;
 use bus_service::{Bus, BusMain, BusPort};
-use fsw_base::{AppNo, Budget, Scope};
+use fsw_base::{AppNo, Scope};
 use std::alloc::{AllocError, Global};
 use std::sync::Wait;
-use tbl_service::TblPort;
-use thread_run::{OpenServices, Work, open_services};
+use tbl_service::TblMain;
+use thread_run::{RunParts, Work};
 
 // The name of the bridge's pipe.
 const BRIDGE: &[u8] = b"BRIDGE";
 
-/// A side before its first call: both services, and the bridge's ports of them.
-#[derive(Drop)]
-pub(crate) struct OpenSide<'r> {
-    /// The services, for the script's applications and the bridge.
-    pub(crate) services: OpenServices<'r>,
-    /// The bridge's port of the bus.
-    pub(crate) port: BusPort<'r>,
-    /// The bridge's port of the tables.
-    pub(crate) tables_port: TblPort<'r>,
-}
-
-/// Takes the memory of both services of a side and of the bridge's ports. The bridge has this
-/// budget, and the number behind those of the script's applications.
+/// Takes the memory of the bridge's ports of a side, where those of the script's applications were
+/// made.
 ///
 /// # Errors
 /// Where memory runs out.
-pub(crate) fn open_side<'r>(
+pub(crate) fn open_ports<'r>(
     alloc: Global,
-    script: &Script,
+    shared: RunParts<'_, 'r>,
     bridge: AppNo,
-    budget: Budget,
-    regions: &'r mut Regions,
-) -> Result<OpenSide<'r>, AllocError> {
-    let mut services = open_services(alloc, script, &[budget], regions)?;
-    let port = services
-        .bus
-        .port(alloc, &mut services.bus_main, bridge)?;
-    let tables_port = services
-        .tables
-        .port(alloc, &mut services.tables_main, bridge)?;
-    Ok(OpenSide {
-        services,
-        port,
-        tables_port,
+    bus_main: &mut BusMain,
+    tables_main: &mut TblMain,
+) -> Result<BridgePorts<'r>, AllocError> {
+    Ok(BridgePorts {
+        port: shared.bus.port(alloc, bus_main, bridge)?,
+        tables_port: shared.tables.port(alloc, tables_main, bridge)?,
     })
 }
 

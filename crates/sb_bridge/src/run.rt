@@ -1,22 +1,21 @@
 //! Both sides and the bridge, each application on a thread of its own.
 
-use crate::bridge::{BridgeDone, BridgeEnds, BridgeJob, BridgeWork, run_one};
+use crate::bridge::{BridgeDone, BridgeJob, BridgePorts, EndedPorts, run_one};
 use crate::gates::GateOfTwo;
-use crate::opening::{OpenSide, begin_bridge, open_side};
+use crate::opening::{begin_bridge, open_ports};
 use app_run::{Finished, Regions};
-use app_script::Script;
 use bridge_plan::BridgePlan;
-use bus_service::{BusDone, BusMain};
+use bus_service::BusMain;
 use bus_words::ReceiptList;
-use fsw_base::Gate;
+use fsw_base::{AppNo, Budget, Gate};
 use std::alloc::{AllocError, Global};
 use std::sync::Wait;
 use std::thread;
 use std::thread::{Scope, Threads};
-use tbl_service::{TblDone, TblMain};
+use tbl_service::TblMain;
 use thread_run::{
-    AllStarted, Begun, Done, Ends, Lists, OpenServices, RunParts, Work, begin_all, close_all,
-    end_all, open_works, start_one,
+    AllStarted, Begun, Done, Ends, Lists, OpenServices, RunParts, Work, begin_all, end_all,
+    join_all, open_services, open_works, start_one,
 };
 
 /// What a run of two buses and a bridge leaves: on each side what a run of its script leaves, with
@@ -50,47 +49,55 @@ pub fn run_bridge<'r, R: Threads + Wait + Sync, G: Gate>(
     two: &'r mut Regions,
     gate: &G,
 ) -> Result<Bridged<'r>, AllocError> {
-    let first = open_side(
+    let first = open_services(
         alloc,
         plan.script(1),
-        plan.bridge(1),
-        plan.budget_on_one(),
+        Some(plan.budget_on_one()),
         one,
     )?;
-    let second = open_side(
+    let second = open_services(
         alloc,
         plan.script(2),
-        plan.bridge(2),
-        plan.budget_on_two(),
+        Some(plan.budget_on_two()),
         two,
     )?;
     run_open(rt, alloc, plan, gate, first, second)
 }
 
-// The applications of a side, each before its first line, and the room for what becomes of them.
+// The applications of a side and the bridge there, each before its first call, and the room for
+// what becomes of them.
 #[derive(Drop)]
 struct Crew<'e, 'r> {
     // What they share.
     shared: RunParts<'e, 'r>,
-    // What each takes along, in order of number.
+    // What each of the script's takes along, in order of number.
     works: Vec<Work<'e, 'r>>,
     // Those that were begun and that are through.
     lists: Lists<'e, 'r>,
+    // Room for the receipts of each.
+    receipts: Vec<ReceiptList>,
+    // The bridge's ports.
+    ports: BridgePorts<'r>,
 }
 
-// Takes the memory of a side's applications.
+// Takes the memory of a side's applications and of the bridge there.
 fn crew_of<'e, 'r>(
     alloc: Global,
     shared: RunParts<'e, 'r>,
+    bridge: AppNo,
     bus_main: &mut BusMain,
     tables_main: &mut TblMain,
 ) -> Result<Crew<'e, 'r>, AllocError> {
     let works = open_works(alloc, shared, bus_main, tables_main)?;
     let lists = Lists::new(alloc, works.len())?;
+    let receipts = Vec::with_capacity(alloc, works.len())?;
+    let ports = open_ports(alloc, shared, bridge, bus_main, tables_main)?;
     Ok(Crew {
         shared,
         works,
         lists,
+        receipts,
+        ports,
     })
 }
 
@@ -100,112 +107,60 @@ fn run_open<'r, R: Threads + Wait + Sync, G: Gate>(
     alloc: Global,
     plan: &BridgePlan,
     gate: &G,
-    first: OpenSide<'r>,
-    second: OpenSide<'r>,
+    mut first: OpenServices<'r>,
+    mut second: OpenServices<'r>,
 ) -> Result<Bridged<'r>, AllocError> {
-    let OpenSide {
-        services: OpenServices {
-            bus: bus_one,
-            bus_main: mut bus_main_one,
-            tables: tables_one,
-            tables_main: mut tables_main_one,
-        },
-        port: mut from,
-        tables_port: from_tables,
-    } = first;
-    let OpenSide {
-        services: OpenServices {
-            bus: bus_two,
-            bus_main: mut bus_main_two,
-            tables: tables_two,
-            tables_main: mut tables_main_two,
-        },
-        port: to,
-        tables_port: to_tables,
-    } = second;
-    let receipts_one = Vec::with_capacity(alloc, plan.script(1).apps() as usize)?;
-    let receipts_two = Vec::with_capacity(alloc, plan.script(2).apps() as usize)?;
     let one = RunParts {
         script: plan.script(1),
-        bus: &bus_one,
-        tables: &tables_one,
+        beside: Some(plan.budget_on_one()),
+        bus: &first.bus,
+        tables: &first.tables,
     };
     let two = RunParts {
         script: plan.script(2),
-        bus: &bus_two,
-        tables: &tables_two,
+        beside: Some(plan.budget_on_two()),
+        bus: &second.bus,
+        tables: &second.tables,
     };
-    let mut crew_one = crew_of(alloc, one, &mut bus_main_one, &mut tables_main_one)?;
-    let crew_two = crew_of(alloc, two, &mut bus_main_two, &mut tables_main_two)?;
+    let mut crew_one = crew_of(
+        alloc,
+        one,
+        plan.bridge(1),
+        &mut first.bus_main,
+        &mut first.tables_main,
+    )?;
+    let crew_two = crew_of(
+        alloc,
+        two,
+        plan.bridge(2),
+        &mut second.bus_main,
+        &mut second.tables_main,
+    )?;
     // From here on nothing has an allocator.
     let pipe = begin_bridge(
         rt,
         plan,
-        &bus_one,
-        &mut bus_main_one,
-        &mut from,
+        one.bus,
+        &mut first.bus_main,
+        &mut crew_one.ports.port,
         &mut crew_one.works,
     );
-    let gate_of_two = GateOfTwo { gate };
-    let through = run_all(
-        rt,
-        Jobs {
-            rt,
-            gate,
-            gate_of_two: &gate_of_two,
-            one: crew_one,
-            two: crew_two,
-            bridge: BridgeJob {
-                one,
-                two,
-                work: BridgeWork {
-                    pipe,
-                    from,
-                    from_tables,
-                    to,
-                    to_tables,
-                },
-            },
-        },
-    );
-    let Through {
-        one: dones_one,
-        two: dones_two,
-        bridge: BridgeDone {
-            from,
-            from_tables,
-            to,
-            to_tables,
-        },
-    } = through;
-    let opened_one = OpenServices {
-        bus: bus_one,
-        bus_main: bus_main_one,
-        tables: tables_one,
-        tables_main: tables_main_one,
-    };
-    let opened_two = OpenServices {
-        bus: bus_two,
-        bus_main: bus_main_two,
-        tables: tables_two,
-        tables_main: tables_main_two,
-    };
-    let ended_one = EndedSide {
-        dones: dones_one,
-        port: from,
-        tables_port: from_tables,
-        receipts: receipts_one,
-    };
-    let ended_two = EndedSide {
-        dones: dones_two,
-        port: to,
-        tables_port: to_tables,
-        receipts: receipts_two,
-    };
+    let (ended_one, ended_two) = run_all(rt, gate, pipe, crew_one, crew_two);
     Ok(Bridged {
-        one: close_side(plan.script(1), opened_one, ended_one),
-        two: close_side(plan.script(2), opened_two, ended_two),
+        one: close_side(plan, 1, first, ended_one),
+        two: close_side(plan, 2, second, ended_two),
     })
+}
+
+// What is left of a side: its applications, the bridge's ports, and room for the receipts.
+#[derive(Drop)]
+struct EndedSide {
+    // The script's applications, in order of number.
+    dones: Vec<Done>,
+    // The bridge's ports.
+    ports: EndedPorts,
+    // Room for the receipts of each application.
+    receipts: Vec<ReceiptList>,
 }
 
 // All that runs at once, as the scope of its threads is given it: in one value, which the scope's
@@ -218,62 +173,99 @@ struct Jobs<'e, 'r, R: Threads + Wait + Sync, G: Gate> {
     gate: &'e G,
     // And of side 2.
     gate_of_two: &'e GateOfTwo<'e, G>,
+    // The bridge's pipe.
+    pipe: u32,
     // Side 1.
     one: Crew<'e, 'r>,
     // Side 2.
     two: Crew<'e, 'r>,
-    // The bridge.
-    bridge: BridgeJob<'e, 'r>,
-}
-
-// What is left of them.
-#[derive(Drop)]
-struct Through {
-    // The applications of side 1, in order of number.
-    one: Vec<Done>,
-    // Those of side 2.
-    two: Vec<Done>,
-    // The bridge.
-    bridge: BridgeDone,
 }
 
 // Runs all to their ends.
-fn run_all<'e, 'r, R: Threads + Wait + Sync, G: Gate>(
-    rt: &'e R,
-    jobs: Jobs<'e, 'r, R, G>,
-) -> Through {
-    thread::scope(thread::scope_env(), rt, move |scope| -> Through {
-        run_in(scope, jobs)
-    })
+fn run_all<'r, R: Threads + Wait + Sync, G: Gate>(
+    rt: &R,
+    gate: &G,
+    pipe: u32,
+    one: Crew<'_, 'r>,
+    two: Crew<'_, 'r>,
+) -> (EndedSide, EndedSide) {
+    let gate_of_two = GateOfTwo { gate };
+    let jobs = Jobs {
+        rt,
+        gate,
+        gate_of_two: &gate_of_two,
+        pipe,
+        one,
+        two,
+    };
+    thread::scope(
+        thread::scope_env(),
+        rt,
+        move |scope| -> (EndedSide, EndedSide) { run_in(scope, jobs) },
+    )
 }
 
 // The same, in a scope of threads: the bridge is started first, then side 1, then side 2.
 fn run_in<'s, 'x, 'e: 's, 'r: 's, R: Threads + Wait + Sync, G: Gate>(
     scope: &'s Scope<'s, &'x ()>,
     jobs: Jobs<'e, 'r, R, G>,
-) -> Through {
+) -> (EndedSide, EndedSide) {
     let Jobs {
         rt,
         gate,
         gate_of_two,
+        pipe,
         one,
         two,
-        bridge,
     } = jobs;
-    let ends = BridgeEnds {
-        one: bridge.one,
-        two: bridge.two,
-        pipe: bridge.work.pipe,
+    let (one, from) = script_side(one);
+    let (two, to) = script_side(two);
+    let job = BridgeJob {
+        one: one.shared,
+        two: two.shared,
+        pipe,
+        from,
+        to,
     };
-    let start = start_one(scope, ends, move || -> BridgeDone { run_one(rt, bridge) });
+    let ends = job.ends();
+    let start = start_one(scope, ends, move || -> BridgeDone { run_one(rt, job) });
     let one = begin_side(scope, rt, gate, one);
     let two = begin_side(scope, rt, gate_of_two, two);
-    let bridge = start.begin(&two.all).end(rt, &two.all);
-    Through {
-        one: end_side(rt, one),
-        two: end_side(rt, two),
-        bridge,
-    }
+    let BridgeDone { from, to } = start.begin(&two.all).end(rt, &two.all);
+    (end_side(rt, one, from), end_side(rt, two, to))
+}
+
+// The applications of a side's script, before their first calls.
+#[derive(Drop)]
+struct ScriptSide<'e, 'r> {
+    // What they share.
+    shared: RunParts<'e, 'r>,
+    // What each takes along, in order of number.
+    works: Vec<Work<'e, 'r>>,
+    // Those that were begun and that are through.
+    lists: Lists<'e, 'r>,
+    // Room for the receipts of each.
+    receipts: Vec<ReceiptList>,
+}
+
+// A side's applications, and the bridge's ports there.
+fn script_side<'e, 'r>(crew: Crew<'e, 'r>) -> (ScriptSide<'e, 'r>, BridgePorts<'r>) {
+    let Crew {
+        shared,
+        works,
+        lists,
+        receipts,
+        ports,
+    } = crew;
+    (
+        ScriptSide {
+            shared,
+            works,
+            lists,
+            receipts,
+        },
+        ports,
+    )
 }
 
 // The applications of a side, once all were begun.
@@ -285,6 +277,8 @@ struct BegunSide<'e, 'r> {
     begun: Vec<Begun<Done, Ends<'e, 'r>>>,
     // Room for what is left of them.
     dones: Vec<Done>,
+    // Room for the receipts of each.
+    receipts: Vec<ReceiptList>,
     // None is left to start.
     all: AllStarted,
 }
@@ -294,56 +288,54 @@ fn begin_side<'s, 'x, 'e: 's, 'r: 's, R: Threads + Wait + Sync, G: Gate>(
     scope: &'s Scope<'s, &'x ()>,
     rt: &'e R,
     gate: &'e G,
-    crew: Crew<'e, 'r>,
+    side: ScriptSide<'e, 'r>,
 ) -> BegunSide<'e, 'r> {
-    let Crew {
+    let ScriptSide {
         shared,
         mut works,
         lists,
-    } = crew;
+        receipts,
+    } = side;
     let Lists { mut begun, dones } = lists;
     let all = begin_all(scope, rt, gate, shared, &mut works, &mut begun);
     BegunSide {
         shared,
         begun,
         dones,
+        receipts,
         all,
     }
 }
 
-// Waits for the ends of a side's applications.
-fn end_side<R: Threads>(rt: &R, side: BegunSide<'_, '_>) -> Vec<Done> {
+// Waits for the ends of a side's applications; the bridge has ended.
+fn end_side<R: Threads>(rt: &R, side: BegunSide<'_, '_>, ports: EndedPorts) -> EndedSide {
     let BegunSide {
         shared,
         mut begun,
         mut dones,
+        receipts,
         all,
     } = side;
     end_all(rt, shared, &mut begun, &mut dones, &all);
-    dones
-}
-
-// What is left of a side: its applications, the bridge's ports, and room for the receipts.
-#[derive(Drop)]
-struct EndedSide {
-    // The script's applications, in order of number.
-    dones: Vec<Done>,
-    // The bridge's port of the bus.
-    port: BusDone,
-    // And of the tables.
-    tables_port: TblDone,
-    // Room for the receipts of each application.
-    receipts: Vec<ReceiptList>,
-}
-
-// Joins the bridge's ports of a side and what is left of its applications, and closes both
-// services.
-fn close_side<'r>(script: &Script, opened: OpenServices<'r>, ended: EndedSide) -> Finished<'r> {
-    let EndedSide {
+    EndedSide {
         dones,
-        port,
-        tables_port,
+        ports,
         receipts,
+    }
+}
+
+// Joins what is left of a side's applications and then of the bridge there, and closes both
+// services.
+fn close_side<'r>(
+    plan: &BridgePlan,
+    side: u32,
+    opened: OpenServices<'r>,
+    ended: EndedSide,
+) -> Finished<'r> {
+    let EndedSide {
+        mut dones,
+        ports,
+        mut receipts,
     } = ended;
     let OpenServices {
         bus,
@@ -351,13 +343,33 @@ fn close_side<'r>(script: &Script, opened: OpenServices<'r>, ended: EndedSide) -
         tables,
         mut tables_main,
     } = opened;
-    bus.join(&mut bus_main, port);
-    tables.join(&mut tables_main, tables_port);
-    let opened = OpenServices {
-        bus,
-        bus_main,
-        tables,
-        tables_main,
+    let shared = RunParts {
+        script: plan.script(side),
+        beside: Some(budget_on(plan, side)),
+        bus: &bus,
+        tables: &tables,
     };
-    close_all(script, opened, dones, receipts)
+    join_all(
+        shared,
+        &mut bus_main,
+        &mut tables_main,
+        &mut dones,
+        &mut receipts,
+    );
+    bus.join(&mut bus_main, ports.port);
+    tables.join(&mut tables_main, ports.tables_port);
+    Finished {
+        bus: bus.close(bus_main),
+        tables: tables.close(tables_main),
+        receipts,
+    }
+}
+
+// What the bridge may add on a side.
+fn budget_on(plan: &BridgePlan, side: u32) -> Budget {
+    if side == 1 {
+        plan.budget_on_one()
+    } else {
+        plan.budget_on_two()
+    }
 }

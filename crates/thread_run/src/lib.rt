@@ -56,7 +56,7 @@ mod starting;
 mod starts;
 mod works;
 
-pub use joining::close_all;
+pub use joining::join_all;
 pub use opening::{OpenServices, open_services, open_works};
 pub use run::run_threads;
 pub use starting::{Lists, begin_all, end_all};

@@ -1,6 +1,7 @@
 //! Starts all applications, each on a thread of its own, and waits for their ends.
 ghost use Rattle.std.specs.Prelude.{◌≡◌, ◌≤◌, [], length, IfOk, vec_len, vec_capacity};
 ghost use Rattle.thread_run.specs.Kept.{Comes, HaveRoomFor, IsBegun};
+ghost use Rattle.thread_run.specs.Whole.{whole};
 ghost use Rattle.thread_run.specs.Works.{IsDone, MayWork, Numbered};
 
 use crate::lists::{note_begun, note_done, take_last, take_last_begun};
@@ -46,10 +47,10 @@ pub(crate) fn run_all<'e, 'r, R: Threads + Wait + Sync, G: Gate>(
     works: Vec<Work<'e, 'r>>,
     lists: Lists<'e, 'r>,
 ) -> Vec<Done>
-    requires works { Numbered (MayWork shared.script.now shared.bus.now shared.tables.now) 1
+    requires works { Numbered (MayWork (whole shared) shared.bus.now shared.tables.now) 1
         works.items }
     requires room { HaveRoomFor (length works.items) lists }
-    ensures done { Numbered (IsDone shared.entry.script.now shared.entry.bus.now
+    ensures done { Numbered (IsDone (whole shared.entry) shared.entry.bus.now
         shared.entry.tables.now) 1 result.items }
     ensures all { length result.items ≡ length works.entry.items }
 {
@@ -64,10 +65,10 @@ pub(crate) fn run_all<'e, 'r, R: Threads + Wait + Sync, G: Gate>(
         thread::scope_env(),
         rt,
         move |scope| -> Vec<Done>
-            requires works { Numbered (MayWork jobs.shared.script.now jobs.shared.bus.now
+            requires works { Numbered (MayWork (whole jobs.shared) jobs.shared.bus.now
                 jobs.shared.tables.now) 1 jobs.works.items }
             requires room { HaveRoomFor (length jobs.works.items) jobs.lists }
-            ensures done { Numbered (IsDone jobs.entry.shared.script.now jobs.entry.shared.bus.now
+            ensures done { Numbered (IsDone (whole jobs.entry.shared) jobs.entry.shared.bus.now
                 jobs.entry.shared.tables.now) 1 result.items }
             ensures all { length result.items ≡ length jobs.entry.works.items }
         { run_in(scope, jobs) },
@@ -95,10 +96,10 @@ fn run_in<'s, 'x, 'e: 's, 'r: 's, R: Threads + Wait + Sync, G: Gate>(
     scope: &'s Scope<'s, &'x ()>,
     jobs: Jobs<'e, 'r, R, G>,
 ) -> Vec<Done>
-    requires works { Numbered (MayWork jobs.shared.script.now jobs.shared.bus.now
+    requires works { Numbered (MayWork (whole jobs.shared) jobs.shared.bus.now
         jobs.shared.tables.now) 1 jobs.works.items }
     requires room { HaveRoomFor (length jobs.works.items) jobs.lists }
-    ensures done { Numbered (IsDone jobs.entry.shared.script.now jobs.entry.shared.bus.now
+    ensures done { Numbered (IsDone (whole jobs.entry.shared) jobs.entry.shared.bus.now
         jobs.entry.shared.tables.now) 1 result.items }
     ensures all { length result.items ≡ length jobs.entry.works.items }
 {
@@ -129,11 +130,11 @@ pub fn begin_all<'s, 'x, 'e: 's, 'r: 's, R: Threads + Wait + Sync, G: Gate>(
     works: &mut Vec<Work<'e, 'r>>,
     begun: &mut Vec<Begun<Done, Ends<'e, 'r>>>,
 ) -> AllStarted
-    requires works { Numbered (MayWork shared.script.now shared.bus.now shared.tables.now) 1
+    requires works { Numbered (MayWork (whole shared) shared.bus.now shared.tables.now) 1
         works.old.items }
     requires empty { begun.old.items ≡ [] }
     requires room { vec_len works.old ≤ vec_capacity begun.old }
-    ensures begun { Numbered (IsBegun shared.entry.script.now shared.entry.bus.now
+    ensures begun { Numbered (IsBegun (whole shared.entry) shared.entry.bus.now
         shared.entry.tables.now) 1 begun.new.items }
     ensures all { length begun.new.items ≡ length works.old.items }
     ensures room { vec_capacity begun.new ≡ vec_capacity begun.old }
@@ -148,7 +149,7 @@ pub fn begin_all<'s, 'x, 'e: 's, 'r: 's, R: Threads + Wait + Sync, G: Gate>(
         scope,
         ends,
         move || -> Done
-            requires { MayWork job.shared.script.now job.shared.bus.now job.shared.tables.now
+            requires { MayWork (whole job.shared) job.shared.bus.now job.shared.tables.now
                 job.work.runner.running.app job.work }
         { run_one(rt, gate, job) },
     );
@@ -166,11 +167,11 @@ pub fn end_all<'e, 'r, R: Threads>(
     dones: &mut Vec<Done>,
     all: &AllStarted,
 )
-    requires begun { Numbered (IsBegun shared.script.now shared.bus.now shared.tables.now) 1
+    requires begun { Numbered (IsBegun (whole shared) shared.bus.now shared.tables.now) 1
         begun.old.items }
     requires empty { dones.old.items ≡ [] }
     requires room { length begun.old.items ≤ vec_capacity dones.old }
-    ensures dones { Numbered (IsDone shared.entry.script.now shared.entry.bus.now
+    ensures dones { Numbered (IsDone (whole shared.entry) shared.entry.bus.now
         shared.entry.tables.now) 1 dones.new.items }
     ensures all { length dones.new.items ≡ length begun.old.items }
     ensures room { vec_capacity dones.new ≡ vec_capacity dones.old }

@@ -3,7 +3,7 @@ ghost use Rattle.std.specs.Prelude.{◌≡◌, ℕ, ◌≤◌, ◌<◌, ◌++◌
 ghost use Rattle.std.specs.Prelude.{Contains, IfOk, Some};
 ghost use mathlib.Core.List.{IsPrefix};
 ghost use Rattle.turn_lock.specs.Views.{entries_of};
-ghost use Rattle.turn_lock.specs.Seats.{main_view, seat_view, with_app, entered_view, left_view};
+ghost use Rattle.turn_lock.specs.Seats.{main_view, seat_view, with_app, entered_view, left_view, again_view};
 ghost use Rattle.turn_lock.specs.Seats.{view_of, IsOut, IsMain, IsIn, IsReady, AddsOwn};
 ghost use Rattle.turn_lock.specs.Seats.{KeepsLonger, AreAllJoined};
 ghost use Rattle.turn_lock.specs.Inside.{known};
@@ -252,14 +252,14 @@ impl<T: Historied> TurnLock<T> {
             (entries_of (view_of seat.old).app (view_of main.new).seen)
             (view_of seat.old).mine }
         ensures seat { IsReady seat.new self.now.name }
-        ensures stays { view_of seat.new ≡
-            record (view_of seat.old) { fixed = (view_of main.old).fixed } }
+        ensures stays { view_of seat.new ≡ again_view (view_of main.old) (view_of seat.old) }
     {
-        let mut place = main.take_place();
-        self.board.glue(&mut place, seat.take_place());
-        self.board.meet(&mut place);
-        *seat = Seat::of(self.board.resume(&mut place));
-        *main = Seat::of(place);
+        let mut home = main.take_place();
+        let other = seat.take_place();
+        self.board.glue(&mut home, other);
+        self.board.meet(&mut home);
+        *seat = Seat::of(self.board.resume(&mut home));
+        *main = Seat::of(home);
     }
 
     /// Ends the lock, whose seats have all been joined, and answers its value. The value has the
