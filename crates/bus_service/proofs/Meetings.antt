@@ -7,7 +7,7 @@ use Rattle.fsw_base.specs.Limits.{Limits}
 use Rattle.journal_store.specs.declared.allowance.Allowance.{Allowance}
 use Rattle.journal_store.specs.Budgets.{allowance_of}
 use Rattle.turn_lock.specs.Views.{entries_of}
-use Rattle.turn_lock.specs.Seats.{Known, SeatView, IsIn, view_of}
+use Rattle.turn_lock.specs.Seats.{Known, SeatView, IsIn, view_of, again_view}
 use Rattle.bus_words.specs.declared.history.Entry.{Entry}
 use Rattle.bus_words.specs.Log.{left_of}
 use Rattle.lend_block.specs.Loan.{LentBytes}
@@ -37,8 +37,8 @@ core_same f g seen limits budgets =
     ap₂ (λ (l : Limits) (b : List Budget). record { limits = l; log = record { budgets = b; entries = entries_in seen }; notes = notes_in seen }) limits budgets
 
 -- The port's seat knows what it knew, and the fixed part by the main part.
-module _ (d u : SeatView Fixed NotedCall) (f : Option Fixed) (here : u.lock ≡ d.lock) (stays : view_of u ≡ record (view_of d) { fixed = f })
-    (same : core_with f (view_of d).seen ≡ seen_in d) (app : ℕ) (bag : Holding LentBytes) where
+module _ (d u : SeatView Fixed NotedCall) (main : Known Fixed NotedCall) (here : u.lock ≡ d.lock) (stays : view_of u ≡ again_view main (view_of d))
+    (same : core_with main.fixed (view_of d).seen ≡ seen_in d) (app : ℕ) (bag : Holding LentBytes) where
   pub seen_same : seen_in u ≡ seen_in d
   seen_same = ap (λ (v : Known Fixed NotedCall). core_with v.fixed v.seen) stays ∙ same
 
