@@ -9,7 +9,7 @@ use Rattle.bus_words.proofs.Owners.{AreOwned-after, AreHanded-after, none_left, 
 use Rattle.bus_words.proofs.Steps.{length-standings}
 use Rattle.tbl_words.proofs.Ends.{ends_leave_nothing}
 use Rattle.tbl_words.proofs.Orders.{tables_have_handles}
-use Rattle.app_script.specs.Script.{ScriptText, app_at}
+use Rattle.app_script.specs.Script.{Application, ScriptText, app_at}
 use Rattle.script_runs.specs.Histories.{Histories}
 use Rattle.script_runs.specs.TableTrace.{first_handles, own_table_entries}
 use Rattle.script_runs.specs.Trace.{first_registers, own_entries}
@@ -18,10 +18,15 @@ use Rattle.script_runs.proofs.EndsCome.{HasEnd, HasTableEnd, trace-ends, table_t
 use Rattle.bridge_plan.specs.Plan.{PlanText, bridge_of}
 use Rattle.bridge_runs.specs.Bridge.{given_by, forwarding}
 use Rattle.bridge_runs.specs.Bridged.{IsBridged}
-use Rattle.bridge_runs.specs.Lefts.{messages_in, messages_by, given_alone, SideHoldsNothing, sends_in}
+use Rattle.bridge_runs.specs.Lefts.{messages_in, messages_by, given_alone, SideHoldsNothing, sends_in, brought, bytes_of}
 use Rattle.bridge_runs.specs.Sides.{side_apps, AreLegal, MergesBeside}
-use Rattle.bridge_plan.specs.Sends.{sends_of}
-use Rattle.bridge_runs.proofs.LineSends.{sends_within}
+use Rattle.bridge_plan.specs.Sends.{sends_of, sent_from}
+use Rattle.script_settings.specs.Accounts.{no_calls}
+use Rattle.bridge_runs.proofs.Brought.{own-grows}
+use Rattle.bridge_runs.proofs.BytesGiven.{bytes_alone}
+use Rattle.bridge_runs.proofs.LineBytes.{none_brought, own_bytes}
+use Rattle.bridge_runs.proofs.LineSends.{bridge_sends, sends_within}
+use Rattle.bridge_runs.proofs.Weights.{all_within, most_of}
 use Rattle.bridge_runs.proofs.FewGiven.{few_alone}
 use Rattle.bridge_runs.proofs.BridgeEnds.{ends_on_one, ends_on_two, ends_at_tables}
 
@@ -52,6 +57,25 @@ few plan one two bridged =
 pub within_lines : (plan : PlanText) (one two : Histories) → IsBridged plan one two → length (messages_by (bridge_of plan.two) two.bus) ≤ (sends_of plan.one.apps).lines
 within_lines plan one two bridged =
     omega (arith, few plan one two bridged, sends_within plan bridged.pipe one.bus bridged.merges_on_one.each bridged.merges_on_one.nobody_else bridged.from)
+
+-- nor than these lines' charges in bytes
+most_bytes : (apps : List Application) → most_of (λ e. brought e.call e.answer) (λ app. (sent_from no_calls app.lines).bytes) apps ≡ (sends_of apps).bytes
+most_bytes [] = refl
+most_bytes (app ∷ apps) = ap (λ n. (sent_from no_calls app.lines).bytes + n) (most_bytes apps)
+
+pub within_bytes : (plan : PlanText) (one two : Histories) → IsBridged plan one two → bytes_of (messages_by (bridge_of plan.two) two.bus) ≤ (sends_of plan.one.apps).bytes
+within_bytes plan one two bridged =
+    let legal = bridged.legal_on_one.bus in
+    let each = all_within (λ e. brought e.call e.answer) (λ app. (sent_from no_calls app.lines).bytes) plan.one.apps one.bus bridged.merges_on_one.nobody_else
+    (λ app first last. own_bytes (app_at plan.one app).lines (own_entries app one.bus) (own-grows plan.one.limits (side_apps plan.one) app one.bus legal) (bridged.merges_on_one.each app first last)) in
+    omega (
+      arith,
+      ap bytes_of (alone plan one two bridged),
+      bytes_alone plan.one.limits (side_apps plan.one) bridged.pipe one.bus legal,
+      each,
+      most_bytes plan.one.apps,
+      none_brought (own_entries (bridge_of plan.one) one.bus) (bridge_sends plan bridged.pipe one.bus bridged.from),
+    )
 
 -- ---- nothing is left
 

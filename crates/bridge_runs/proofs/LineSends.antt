@@ -28,7 +28,7 @@ use Rattle.bridge_runs.specs.Lefts.{is_send, sends_in}
 abbrev one_send : Call → ℕ
 one_send call = cond (is_send call) 1 0
 
-sends-cons : (e : Entry) (es : List Entry) → sends_in (e ∷ es) ≡ one_send e.call + sends_in es
+pub sends-cons : (e : Entry) (es : List Entry) → sends_in (e ∷ es) ≡ one_send e.call + sends_in es
 sends-cons e es = sum_by-cons (λ (x : Entry). cond (is_send x.call) 1 0) e es
 
 sends-append : (xs ys : List Entry) → sends_in (xs ++ ys) ≡ sends_in xs + sends_in ys
@@ -171,7 +171,7 @@ ends_send p es waits =
     let front = waits_send p false (waits.before ++ waits.last ∷ []) waits.waits in
     omega (arith, ap sends_in waits.all, sends-append waits.before (waits.last ∷ waits.end ∷ []), sends-append waits.before (waits.last ∷ []), sends-cons waits.last (waits.end ∷ []), sends-cons waits.last [], sends-cons waits.end [], ap one_send waits.ends, front)
 
-bridge_sends : (plan : PlanText) (p : ℕ) (history : List Entry) → BridgesFrom plan p history → sends_in (own_entries (bridge_of plan.one) history) ≡ 0
+pub bridge_sends : (plan : PlanText) (p : ℕ) (history : List Entry) → BridgesFrom plan p history → sends_in (own_entries (bridge_of plan.one) history) ≡ 0
 bridge_sends plan p history from =
     let app = bridge_of plan.one in
     let parts = ap (own_entries app) from.begins.whole ∙ filter-append (λ (e : Entry). e.app == app) from.first from.rest in

@@ -1,5 +1,7 @@
 -- What follows of a run of two buses and a bridge.
-use Rattle.std.specs.Prelude.{ℕ, List, [], ◌∷◌, map, Bool, true, false, count_by}
+use Rattle.std.specs.Prelude.{ℕ, ◌+◌, List, [], ◌∷◌, length, map, Bool, true, false, count_by}
+use Rattle.bus_words.specs.declared.calls.BusAnswer.{BusAnswer}
+use Rattle.bus_words.specs.declared.calls.BusAnswer.TheVariants.{Sent}
 use Rattle.bus_words.specs.declared.history.Call.{Call}
 use Rattle.bus_words.specs.declared.history.Call.TheVariants.{Transmit, TransmitBuffer, Housekeeping}
 use Rattle.bus_words.specs.declared.history.Entry.{Entry}
@@ -41,6 +43,19 @@ is_send call = false
 -- how many entries are sends
 abbrev pub sends_in : List Entry → ℕ
 sends_in entries = count_by (λ e. is_send e.call) entries
+
+-- how many bytes a call so answered may bring to pipes: those of the message or of the buffer; a
+-- housekeeping packet has 64
+abbrev pub brought : Call → BusAnswer → ℕ
+brought (Transmit bytes inc) (Sent number reached) = length bytes
+brought (TransmitBuffer buf bytes inc) (Sent number reached) = length bytes
+brought Housekeeping (Sent number reached) = 64
+brought call answer = 0
+
+-- how many bytes lists have, one behind the other
+abbrev pub bytes_of : List (List ℕ) → ℕ
+bytes_of [] = 0
+bytes_of (message ∷ messages) = length message + bytes_of messages
 
 -- behind these histories a side holds nothing: no pipe, message, buffer, block, table or handle
 pub record SideHoldsNothing (script : ScriptText) (histories : Histories) : Type 0 where

@@ -5,12 +5,13 @@ ghost use Rattle.bridge_plan.specs.Plan.{PlanText, bridge_of};
 ghost use Rattle.bridge_plan.specs.Sends.{sends_of};
 ghost use Rattle.bridge_runs.specs.Bridge.{given_by};
 ghost use Rattle.bridge_runs.specs.Bridged.{IsBridged};
-ghost use Rattle.bridge_runs.specs.Lefts.{messages_by, given_alone, sends_in, SideHoldsNothing};
+ghost use Rattle.bridge_runs.specs.Lefts.{messages_by, given_alone, sends_in, bytes_of, SideHoldsNothing};
 
 /// What the bridge sends on side 2 is what its pipe gave on side 1, each message once and in order;
 /// and the pipe gave what it gives alone: whatever the other pipes of side 1 do, only which sends
 /// were accepted there, and the pipe's own subscriptions and depth, decide what goes over. So no
-/// more messages go over than sends were made on side 1, nor than lines of its script send.
+/// more messages go over than sends were made on side 1, nor than lines of its script send, and no
+/// more bytes than these lines are charged for.
 pub fn bridges_forward()
     ensures order { (plan : PlanText) (one two : Histories) (bridged : IsBridged plan one two) →
         messages_by (bridge_of plan.two) two.bus ≡ given_by plan.one bridged.pipe one.bus }
@@ -20,6 +21,8 @@ pub fn bridges_forward()
         length (messages_by (bridge_of plan.two) two.bus) ≤ sends_in one.bus }
     ensures lines { (plan : PlanText) (one two : Histories) → IsBridged plan one two →
         length (messages_by (bridge_of plan.two) two.bus) ≤ (sends_of plan.one.apps).lines }
+    ensures bytes { (plan : PlanText) (one two : Histories) → IsBridged plan one two →
+        bytes_of (messages_by (bridge_of plan.two) two.bus) ≤ (sends_of plan.one.apps).bytes }
 {}
 
 /// Behind such a run no pipe is live on either side, no message and no buffer is held, every block
