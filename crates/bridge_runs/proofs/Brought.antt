@@ -1,5 +1,5 @@
 -- What entries bring to pipes, in bytes, where the bus answered them.
-use Rattle.std.proofs.Common.{◌≡◌, ℕ, zero, suc, ◌+◌, ◌<◌, ◌≤◌, ◌==◌, ltb, Bool, true, false, cond, List, [], ◌∷◌, ◌++◌, length, filter, Option, Some, None, refl, ap, sym, ◌∙◌, subst, arith}
+use Rattle.std.proofs.Common.{◌≡◌, ℕ, zero, suc, ◌+◌, ◌<◌, ◌≤◌, ◌==◌, not, ltb, Bool, true, false, cond, List, [], ◌∷◌, ◌++◌, length, filter, Option, Some, None, refl, ap, sym, ◌∙◌, subst, arith}
 use Rattle.std.specs.Option.{is_some}
 use Rattle.std.proofs.lemmas.Bool.{ltb-false}
 use Rattle.ccsds_msg.specs.Message.{IsMessage, fault, front_fault, message_id}
@@ -66,12 +66,9 @@ sound-decided reads limits s app (calls.Transmit bytes inc) None is =
     (IsMessage-length bytes (fault-none (fault bytes) (refused_if-none (is_some (fault bytes)) BadArgument _ none).0))
 sound-decided reads limits s app (calls.TransmitBuffer buf bytes inc) None is =
     let none = by_bus-none (transmit_buffer_cause s app buf bytes) is in
-    let first = (refused_if-none (not_unsent s app buf) BufferInvalid _ none).1 in
+    let first = (refused_if-none (not (has_unsent s.unsent app buf)) BufferInvalid _ none).1 in
     sound-passed (route s.subscriptions (message_id bytes)) (sending_in reads s app buf bytes inc) (buffer_gone s app buf) buf bytes inc
     (IsMessage-length (front_of bytes) (IsMessage-front bytes (fault-none (front_fault bytes) (refused_if-none (is_some (front_fault bytes)) BadArgument _ first).0)))
-  where
-    not_unsent : State → ℕ → ℕ → Bool
-    not_unsent t who number = cond (has_unsent t.unsent who number) false true
 sound-decided reads limits s app call None is = tt
 
 sound-step : (limits : Limits) (history : List Entry) (s : State) (app : ℕ) (call : Call) → Sound call (step limits history s app call).0
