@@ -25,7 +25,7 @@ use Rattle.script_settings.specs.Accounts.{no_calls}
 use Rattle.bridge_runs.proofs.Brought.{own-grows}
 use Rattle.bridge_runs.proofs.BytesGiven.{bytes_alone}
 use Rattle.bridge_runs.proofs.LineBytes.{none_brought, own_bytes}
-use Rattle.bridge_runs.proofs.LineSends.{bridge_sends, sends_within}
+use Rattle.bridge_runs.proofs.LineSends.{bridge_sends, sends_beside, sends_within}
 use Rattle.bridge_runs.proofs.Weights.{all_within, most_of}
 use Rattle.bridge_runs.proofs.FewGiven.{few_alone}
 use Rattle.bridge_runs.proofs.BridgeEnds.{ends_on_one, ends_on_two, ends_at_tables}
@@ -63,18 +63,39 @@ most_bytes : (apps : List Application) → most_of (λ e. brought e.call e.answe
 most_bytes [] = refl
 most_bytes (app ∷ apps) = ap (λ n. (sent_from no_calls app.lines).bytes + n) (most_bytes apps)
 
-pub within_bytes : (plan : PlanText) (one two : Histories) → IsBridged plan one two → bytes_of (messages_by (bridge_of plan.two) two.bus) ≤ (sends_of plan.one.apps).bytes
-within_bytes plan one two bridged =
-    let legal = bridged.legal_on_one.bus in
-    let each = all_within (λ e. brought e.call e.answer) (λ app. (sent_from no_calls app.lines).bytes) plan.one.apps one.bus bridged.merges_on_one.nobody_else
-    (λ app first last. own_bytes (app_at plan.one app).lines (own_entries app one.bus) (own-grows plan.one.limits (side_apps plan.one) app one.bus legal) (bridged.merges_on_one.each app first last)) in
+-- of any side 1 on which one application more sends nothing
+pub bytes_beside : (plan : PlanText) (p : ℕ) (one : Histories) → AreLegal plan.one one → MergesBeside plan.one one → sends_in (own_entries (bridge_of plan.one) one.bus) ≡ 0
+    → bytes_of (given_by plan.one p one.bus) ≤ (sends_of plan.one.apps).bytes
+bytes_beside plan p one legal merges none =
+    let each = all_within (λ e. brought e.call e.answer) (λ app. (sent_from no_calls app.lines).bytes) plan.one.apps one.bus merges.nobody_else
+    (λ app first last. own_bytes (app_at plan.one app).lines (own_entries app one.bus) (own-grows plan.one.limits (side_apps plan.one) app one.bus legal.bus) (merges.each app first last)) in
     omega (
       arith,
-      ap bytes_of (alone plan one two bridged),
-      bytes_alone plan.one.limits (side_apps plan.one) bridged.pipe one.bus legal,
+      ap (λ messages. bytes_of (map (λ (received : Received). received.message) messages)) (stands_alone plan.one.limits (side_apps plan.one) p one.bus legal.bus),
+      bytes_alone plan.one.limits (side_apps plan.one) p one.bus legal.bus,
       each,
       most_bytes plan.one.apps,
-      none_brought (own_entries (bridge_of plan.one) one.bus) (bridge_sends plan bridged.pipe one.bus bridged.from),
+      none_brought (own_entries (bridge_of plan.one) one.bus) none,
+    )
+
+pub lines_beside : (plan : PlanText) (p : ℕ) (one : Histories) → AreLegal plan.one one → MergesBeside plan.one one → sends_in (own_entries (bridge_of plan.one) one.bus) ≡ 0
+    → length (given_by plan.one p one.bus) ≤ (sends_of plan.one.apps).lines
+lines_beside plan p one legal merges none =
+    let apps = side_apps plan.one in
+    omega (
+      arith,
+      ap (λ messages. length (map (λ (received : Received). received.message) messages)) (stands_alone plan.one.limits apps p one.bus legal.bus),
+      length-map (λ (received : Received). received.message) (solo_receipts unmade (cut plan.one.limits apps p one.bus)),
+      few_alone plan.one.limits apps p one.bus,
+      sends_beside plan one.bus merges.each merges.nobody_else none,
+    )
+
+pub within_bytes : (plan : PlanText) (one two : Histories) → IsBridged plan one two → bytes_of (messages_by (bridge_of plan.two) two.bus) ≤ (sends_of plan.one.apps).bytes
+within_bytes plan one two bridged =
+    omega (
+      arith,
+      ap bytes_of (order plan one two bridged),
+      bytes_beside plan bridged.pipe one bridged.legal_on_one bridged.merges_on_one (bridge_sends plan bridged.pipe one.bus bridged.from),
     )
 
 -- ---- nothing is left

@@ -20,7 +20,7 @@ use Rattle.script_lines.specs.declared.line.Line.TheVariants as lines
 use Rattle.script_settings.specs.declared.account.Account.{Account}
 use Rattle.script_settings.specs.Accounts.{charge_of, counted, no_calls, sizes_after}
 use Rattle.script_runs.specs.LineCalls.{line_call_of}
-use Rattle.script_runs.specs.Messages.{fill_byte, sent_message}
+use Rattle.script_runs.specs.Messages.{fill_byte, filled, sent_message}
 use Rattle.script_runs.specs.Trace.{AfterAnswer, LineEntries, Registers, Trace, call_of, first_registers, registers_after}
 use Rattle.script_runs.specs.Written.{Written, bytes_in, first_written, put_in, with_buffer, with_bytes, written_after, written_by}
 use Rattle.script_runs.proofs.Buffers.{length-put_in}
@@ -66,7 +66,7 @@ fits_alloc : (m : ℕ) (buffers sizes : List ℕ) (written : Written) (buf size 
     Fits n (set buffers buf n) (set sizes buf size) (with_buffer written n (Some (replicate size 0)))
 fits_alloc m buffers sizes written buf size n f above least =
     let now = with_buffer written n (Some (replicate size 0)) in
-    let zeros : length (bytes_in now n) ≡ size = ap length (own_is written n (Some (replicate size 0))) ∙ length-replicate size 0 in
+    let zeros : length (bytes_in now n) ≡ size = ap length (own_is written n (Some (replicate size 0))) ∙ length-replicate {A = ℕ} size 0 in
     record {
       len = length-set buffers buf n ∙ f.len ∙ sym (length-set sizes buf size);
       known = λ k. let old = f.known k in set_cases (λ a b. a ≤ n) buffers sizes buf n size k f.len (omega arith) (omega (arith, old, above));
@@ -77,7 +77,7 @@ fits_alloc m buffers sizes written buf size n f above least =
           set_cases (λ a b. length (bytes_in now a) ≤ b) buffers sizes buf n size k f.len (omega (arith, zeros))
           (omega (arith, ap length (others_stay written n (get_or buffers k 0) (Some (replicate size 0)) same), old));
       long = λ j. elim (n == j) as (λ b. IfSome (cond {A = Option (List ℕ)} b (Some (replicate size 0)) (written j)) (λ bytes. 7 ≤ length bytes)) [
-            | true ↦ omega (arith, length-replicate size 0, least)
+            | true ↦ omega (arith, length-replicate {A = ℕ} size 0, least)
             | false ↦ f.long j
           ];
       none = ap length (others_stay written n 0 (Some (replicate size 0)) (λ is. absurd (omega (arith, is, above)))) ∙ f.none;
@@ -137,9 +137,9 @@ Moves m registers written account line (Some call) =
 
 length-sent : (id size fill : ℕ) → length (sent_message id size fill) ≡ 6 + (size - 6)
 length-sent id size fill =
-    length-append (header_bytes id 0 size) _
-    ∙ ap (λ n. n + length _) (length-header_bytes id 0 size)
-    ∙ ap (λ n. 6 + n) (length-map-range_with_len (fill_byte fill) 0 (size - 6))
+    length-append (header_bytes id 0 size) (filled fill (size - 6))
+    ∙ ap (λ (n : ℕ). n + length (filled fill (size - 6))) (length-header_bytes id 0 size)
+    ∙ ap (λ (n : ℕ). 6 + n) (length-map-range_with_len (fill_byte fill) 0 (size - 6))
 
 sent_within : (m : ℕ) (bytes : List ℕ) (inc : Bool) (answer : BusAnswer) (most : ℕ) → Grown m (calls.Transmit bytes inc) answer → (7 ≤ length bytes → length bytes ≤ most) → brought (calls.Transmit bytes inc) answer ≤ most
 sent_within m bytes inc (answers.Sent number reached) most grown within = within grown
@@ -260,12 +260,12 @@ first_fits = record {
   none = refl;
 }
   where
-    zeros_at : (n k : ℕ) → get_or (replicate n 0) k 0 ≡ 0
+    zeros_at : (n k : ℕ) → get_or (replicate {A = ℕ} n 0) k 0 ≡ 0
     zeros_at zero k = refl
     zeros_at (suc n) zero = refl
     zeros_at (suc n) (suc k) = zeros_at n k
 
-    zero_there : (n k : ℕ) → get_or (replicate n 0) k 0 ≤ 0
+    zero_there : (n k : ℕ) → get_or (replicate {A = ℕ} n 0) k 0 ≤ 0
     zero_there n k = omega (arith, zeros_at n k)
 
 -- an application's lines bring no more bytes to pipes than they send by their charges
@@ -274,7 +274,7 @@ own_bytes lines es grows trace = trace_bytes 0 first_registers first_written no_
 
 -- ---- the bridge
 
-brings_if_sends : (call : Call) (answer : BusAnswer) → cond (is_send call) 1 0 ≡ 0 → brought call answer ≡ 0
+brings_if_sends : (call : Call) (answer : BusAnswer) → cond {A = ℕ} (is_send call) 1 0 ≡ 0 → brought call answer ≡ 0
 brings_if_sends (calls.Transmit bytes inc) answer none = absurd (omega (arith, none))
 brings_if_sends (calls.TransmitBuffer buf bytes inc) answer none = absurd (omega (arith, none))
 brings_if_sends calls.Housekeeping answer none = absurd (omega (arith, none))
@@ -285,5 +285,5 @@ pub none_brought : (es : List Entry) → sends_in es ≡ 0 → weigh (λ e. brou
 none_brought [] none = refl
 none_brought (e ∷ es) none =
     let both = sends-cons e es in
-    let first : cond (is_send e.call) 1 0 ≡ 0 = omega (arith, both, none) in
+    let first : cond {A = ℕ} (is_send e.call) 1 0 ≡ 0 = omega (arith, both, none) in
     omega (arith, brings_if_sends e.call e.answer first, none_brought es (omega (arith, both, none)))

@@ -1,9 +1,8 @@
 -- The applications of side 1 send no more messages than their lines do, and the bridge sends none there.
-use Rattle.std.proofs.Common.{◌≡◌, ℕ, zero, suc, ◌+◌, ◌-◌, ◌<◌, ◌≤◌, ◌==◌, Bool, true, false, cond, List, [], ◌∷◌, ◌++◌, length, map, Option, Some, None, refl, ap, ◌∙◌, subst, arith, eqb-true}
-use Rattle.std.specs.Prelude.{All, slice_index_or}
-use Rattle.std.proofs.lemmas.Bool.{eqb-false, ne_eqb}
+use Rattle.std.proofs.Common.{◌≡◌, ℕ, ◌+◌, ◌≤◌, ◌==◌, Bool, true, false, cond, List, [], ◌∷◌, ◌++◌, length, map, Option, Some, None, refl, ap, ◌∙◌, arith}
+use Rattle.std.specs.Prelude.{All}
 use Rattle.fsw_base.specs.declared.config.Scope.TheVariants.{Global}
-use Rattle.std.proofs.lemmas.List.Elements.{filter-append, All-tail}
+use Rattle.std.proofs.lemmas.List.Elements.{filter-append}
 use Rattle.std.proofs.lemmas.List.Sums.{sum_by-append, sum_by-cons}
 use Rattle.bus_words.specs.declared.calls.BusAnswer.{BusAnswer}
 use Rattle.bus_words.specs.declared.calls.BusAnswer.TheVariants as answers
@@ -24,6 +23,7 @@ use Rattle.bridge_plan.specs.Plan.{PlanText, bridge_of}
 use Rattle.bridge_plan.specs.Sends.{sent_by, sent_from, sends_of}
 use Rattle.bridge_runs.specs.Bridge.{BridgesFrom, Waits, WaitsAndEnds, first_calls, is_pending}
 use Rattle.bridge_runs.specs.Lefts.{is_send, sends_in}
+use Rattle.bridge_runs.proofs.Weights.{all_within, most_of, weigh}
 
 abbrev one_send : Call → ℕ
 one_send call = cond (is_send call) 1 0
@@ -76,69 +76,13 @@ trace_sends registers written account (line ∷ lines) es trace =
           (λ es there. trace_sends registers (written_by written registers.buffers line) (counted account line) lines es there) es trace,
     )
 
--- ---- all applications
-
--- the sends of so many applications, from this number on
-abbrev own_sends : ℕ → ℕ → List Entry → ℕ
-own_sends n zero es = 0
-own_sends n (suc count) es = sends_in (own_entries n es) + own_sends (n + 1) count es
-
-own_none : (n count : ℕ) → own_sends n count [] ≡ 0
-own_none n zero = refl
-own_none n (suc count) = omega (arith, own_none (n + 1) count)
+-- ---- the bridge
 
 own_with : (b : Bool) (n : ℕ) (e : Entry) (es : List Entry) → (e.app == n) ≡ b → sends_in (own_entries n (e ∷ es)) ≡ cond b (one_send e.call) 0 + sends_in (own_entries n es)
 own_with true n e es same = ap (λ b. sends_in (cond b (e ∷ own_entries n es) (own_entries n es))) same ∙ sends-cons e (own_entries n es)
 own_with false n e es same =
     let kept : sends_in (own_entries n (e ∷ es)) ≡ sends_in (own_entries n es) = ap (λ b. sends_in (cond b (e ∷ own_entries n es) (own_entries n es))) same in
     omega (arith, kept)
-
-differ : (a b : ℕ) → (a ≡ b → ⊥) → (a == b) ≡ false
-differ a b ne = ne_eqb a b ne
-
-own_past : (n count : ℕ) (e : Entry) (es : List Entry) → e.app < n → own_sends n count (e ∷ es) ≡ own_sends n count es
-own_past n zero e es before = refl
-own_past n (suc count) e es before =
-    omega (arith, own_with false n e es (differ e.app n (λ same. omega (arith, same, before))), own_past (n + 1) count e es (omega (arith, before)))
-
-own_once : (n count : ℕ) (e : Entry) (es : List Entry) → n ≤ e.app → e.app < n + count → own_sends n count (e ∷ es) ≡ one_send e.call + own_sends n count es
-own_once n zero e es from to = absurd (omega (arith, from, to))
-own_once n (suc count) e es from to = decide (e.app == n) refl (own_once (n + 1) count e es)
-  where
-    decide : (b : Bool) → (e.app == n) ≡ b → (n + 1 ≤ e.app → e.app < n + 1 + count → own_sends (n + 1) count (e ∷ es) ≡ one_send e.call + own_sends (n + 1) count es)
-        → own_sends n (suc count) (e ∷ es) ≡ one_send e.call + own_sends n (suc count) es
-    decide true same others = omega (arith, own_with true n e es same, own_past (n + 1) count e es (omega (arith, eqb-true e.app n same)))
-    decide false other others =
-        let later : n + 1 ≤ e.app = omega (arith, from, eqb-false e.app n other) in
-        omega (arith, own_with false n e es other, others later (omega (arith, to)))
-
-all_own : (count : ℕ) (es : List Entry) → All (λ e. (1 ≤ e.app) × (e.app ≤ count)) es → sends_in es ≡ own_sends 1 count es
-all_own count [] all = omega (arith, own_none 1 count)
-all_own count (e ∷ es) all =
-    let first = all 0 e (omega arith) in
-    omega (arith, sends-cons e es, own_once 1 count e es first.0 (omega (arith, first.1)), all_own count es (All-tail (λ (x : Entry). (1 ≤ x.app) × (x.app ≤ count)) e es all))
-
--- those of a script's applications and of one more
-apps_own : (apps : List Application) (n : ℕ) (es : List Entry) → ((i : ℕ) → i < length apps → sends_in (own_entries (n + i) es) ≤ (sent_from no_calls (slice_index_or apps i (record { name = []; lines = [] })).lines).lines)
-    → own_sends n (suc (length apps)) es ≤ (sends_of apps).lines + sends_in (own_entries (n + length apps) es)
-apps_own [] n es each =
-    let same : n ≡ n + 0 = omega arith in
-    omega (arith, ap (λ k. sends_in (own_entries k es)) same)
-apps_own (app ∷ apps) n es each =
-    let same : n ≡ n + 0 = omega arith in
-    let last : n + 1 + length apps ≡ n + suc (length apps) = omega arith in
-    omega (
-      arith,
-      each 0 (omega arith),
-      ap (λ k. sends_in (own_entries k es)) same,
-      ap (λ k. sends_in (own_entries k es)) last,
-      apps_own apps (n + 1) es (λ i within. subst (λ k. sends_in (own_entries k es) ≤ (sent_from no_calls (slice_index_or apps i (record { name = []; lines = [] })).lines).lines) (moved n i) (each (suc i) (omega (arith, within)))),
-    )
-  where
-    moved : (n i : ℕ) → n + suc i ≡ n + 1 + i
-    moved n i = omega arith
-
--- ---- the bridge
 
 own_fewer : (app : ℕ) (es : List Entry) → sends_in (own_entries app es) ≤ sends_in es
 own_fewer app [] = omega arith
@@ -183,19 +127,30 @@ bridge_sends plan p history from =
 
 -- ---- side 1
 
+-- sends are entries that weigh one each
+weighs : (es : List Entry) → sends_in es ≡ weigh (λ e. one_send e.call) es
+weighs [] = refl
+weighs (e ∷ es) = omega (arith, sends-cons e es, weighs es)
+
+most_lines : (apps : List Application) → most_of (λ e. one_send e.call) (λ app. (sent_from no_calls app.lines).lines) apps ≡ (sends_of apps).lines
+most_lines [] = refl
+most_lines (app ∷ apps) = ap (λ n. (sent_from no_calls app.lines).lines + n) (most_lines apps)
+
+-- if one application more sends nothing
+pub sends_beside : (plan : PlanText) (history : List Entry)
+    → ((app : ℕ) → 1 ≤ app → app ≤ length plan.one.apps → Trace first_registers first_written (app_at plan.one app).lines (own_entries app history))
+    → All (λ e. (1 ≤ e.app) × (e.app ≤ bridge_of plan.one)) history → sends_in (own_entries (bridge_of plan.one) history) ≡ 0 → sends_in history ≤ (sends_of plan.one.apps).lines
+sends_beside plan history each nobody_else none =
+    let apps = plan.one.apps in
+    let bound = all_within (λ e. one_send e.call) (λ app. (sent_from no_calls app.lines).lines) apps history nobody_else
+    (λ app first last. omega (
+      arith,
+      weighs (own_entries app history),
+      trace_sends first_registers first_written no_calls (app_at plan.one app).lines (own_entries app history) (each app first last),
+    )) in
+    omega (arith, weighs history, bound, most_lines apps, weighs (own_entries (bridge_of plan.one) history), none)
+
 pub sends_within : (plan : PlanText) (p : ℕ) (history : List Entry)
     → ((app : ℕ) → 1 ≤ app → app ≤ length plan.one.apps → Trace first_registers first_written (app_at plan.one app).lines (own_entries app history))
     → All (λ e. (1 ≤ e.app) × (e.app ≤ bridge_of plan.one)) history → BridgesFrom plan p history → sends_in history ≤ (sends_of plan.one.apps).lines
-sends_within plan p history each nobody_else from =
-    let apps = plan.one.apps in
-    let count : length apps + 1 ≡ suc (length apps) = omega arith in
-    let last : 1 + length apps ≡ length apps + 1 = omega arith in
-    let all = all_own (length apps + 1) history nobody_else in
-    let own = apps_own apps 1 history (λ i within. lines_of_app i within) in
-    omega (arith, all, ap (λ k. own_sends 1 k history) count, own, ap (λ k. sends_in (own_entries k history)) last, bridge_sends plan p history from)
-  where
-    lines_of_app : (i : ℕ) → i < length plan.one.apps → sends_in (own_entries (1 + i) history) ≤ (sent_from no_calls (slice_index_or plan.one.apps i (record { name = []; lines = [] })).lines).lines
-    lines_of_app i within =
-        let same : 1 + i - 1 ≡ i = omega arith in
-        let sends = trace_sends first_registers first_written no_calls (app_at plan.one (1 + i)).lines (own_entries (1 + i) history) (each (1 + i) (omega arith) (omega (arith, within))) in
-        subst (λ k. sends_in (own_entries (1 + i) history) ≤ (sent_from no_calls (slice_index_or plan.one.apps k (record { name = []; lines = [] })).lines).lines) same sends
+sends_within plan p history each nobody_else from = sends_beside plan history each nobody_else (bridge_sends plan p history from)

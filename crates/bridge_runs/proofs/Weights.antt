@@ -23,7 +23,9 @@ module _ (w : Entry → ℕ) where
 
   own_with : (b : Bool) (n : ℕ) (e : Entry) (es : List Entry) → (e.app == n) ≡ b → weigh (own_entries n (e ∷ es)) ≡ cond b (w e) 0 + weigh (own_entries n es)
   own_with true n e es same = ap (λ b. weigh (cond b (e ∷ own_entries n es) (own_entries n es))) same
-  own_with false n e es same = ap (λ b. weigh (cond b (e ∷ own_entries n es) (own_entries n es))) same
+  own_with false n e es same =
+      let kept : weigh (own_entries n (e ∷ es)) ≡ weigh (own_entries n es) = ap (λ b. weigh (cond b (e ∷ own_entries n es) (own_entries n es))) same in
+      omega (arith, kept)
 
   own_past : (n count : ℕ) (e : Entry) (es : List Entry) → e.app < n → own_weights n count (e ∷ es) ≡ own_weights n count es
   own_past n zero e es before = refl

@@ -15,7 +15,8 @@
 //!
 //! Proved: `bridges_forward`: the messages that the bridge sent on side 2 are those that its pipe
 //! gave on side 1, each once and in order, and these are those that the pipe gives alone; they are
-//! no more than the sends of side 1, nor than the lines of its script that send.
+//! no more than the sends of side 1, nor than the lines of its script that send, and have no more
+//! bytes than these lines are charged for.
 //! `bridges_leave_nothing`: behind both histories of both sides nothing is held, and no table is
 //! left. No program runs a bridge yet.
 #![tactic(auto)]

@@ -40,12 +40,15 @@ const TOO_LARGE: ScriptFault = ScriptFault {
 };
 
 // Which words the program knows: each of their forms, as `Words::task` reads them.
-const USAGE: &[u8] = b"usage: run | lockstep | gen N | soak N | image | pack NAME OFFSET SUB | bridge\n";
+const USAGE: &[u8] =
+    b"usage: run | lockstep | gen N | soak N | image | pack NAME OFFSET SUB | bridge\n";
 
-// By what applications run on threads: the runtime, and the gate round their lines.
+/// By what applications run on threads.
 #[derive(Drop)]
 pub(crate) struct ByThreads<'a, R, G> {
+    /// The runtime.
     pub(crate) rt: &'a R,
+    /// The gate round their lines.
     pub(crate) gate: &'a G,
 }
 

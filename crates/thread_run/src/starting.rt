@@ -119,9 +119,9 @@ fn run_in<'s, 'x, 'e: 's, 'r: 's, R: Threads + Wait + Sync, G: Gate>(
     dones
 }
 
-/// Starts the applications that are left, each on a thread of the scope, that of the greatest number
-/// first; and once all are started, runs here those whose thread couldn't be started, in order of
-/// number.
+/// Starts the applications that are left, each on a thread of the scope, that of the greatest
+/// number first; and once all are started, runs here those whose thread couldn't be started, in
+/// order of number.
 pub fn begin_all<'s, 'x, 'e: 's, 'r: 's, R: Threads + Wait + Sync, G: Gate>(
     scope: &'s Scope<'s, &'x ()>,
     rt: &'e R,
