@@ -1,8 +1,8 @@
 -- What entries bring to pipes, in bytes, where the bus answered them.
-use Rattle.std.proofs.Common.{◌≡◌, ℕ, zero, suc, ◌+◌, ◌<◌, ◌≤◌, ◌==◌, not, ltb, Bool, true, false, cond, List, [], ◌∷◌, ◌++◌, length, filter, Option, Some, None, refl, ap, sym, ◌∙◌, subst, arith}
+use Rattle.std.proofs.Common.{◌≡◌, ℕ, zero, suc, ◌<◌, ◌≤◌, ◌==◌, not, ltb, Bool, true, false, cond, List, [], ◌∷◌, ◌++◌, length, Option, Some, None, refl, sym, subst, arith}
 use Rattle.std.specs.Option.{is_some}
 use Rattle.std.proofs.lemmas.Bool.{ltb-false}
-use Rattle.ccsds_msg.specs.Message.{IsMessage, fault, front_fault, message_id}
+use Rattle.ccsds_msg.specs.Message.{fault, front_fault, message_id}
 use Rattle.ccsds_msg.specs.declared.packet.MsgFault.{MsgFault}
 use Rattle.ccsds_msg.proofs.MessageLemmas.{IsMessage-length, IsMessage-front}
 use Rattle.fsw_base.specs.declared.statuses.SbStatus.TheVariants.{BadArgument, BufferInvalid}
@@ -15,7 +15,7 @@ use Rattle.bus_words.specs.declared.history.Entry.{Entry}
 use Rattle.bus_words.specs.Refusals.{Refusal, OfBus, OfPools, OfEvents, refusal_answer}
 use Rattle.bus_words.specs.Bus.{Sending, State, Subscription, opening, has_unsent, route}
 use Rattle.bus_words.specs.Held.{numbers_to}
-use Rattle.bus_words.specs.Machine.{IsLegal, LegalFrom, accept_with, allocate_cause, buffer_gone, cause, decided_with, front_of, passed_along, reads_after, sent_along, state_after, step, transmit_buffer_cause, transmit_cause}
+use Rattle.bus_words.specs.Machine.{IsLegal, LegalFrom, allocate_cause, buffer_gone, cause, decided_with, front_of, passed_along, reads_after, sent_along, state_after, step, transmit_buffer_cause, transmit_cause}
 use Rattle.bus_words.specs.Sends.{Reads, sending_from, sending_in}
 use Rattle.bus_words.specs.Numbers.{number_given, number_sent, numbers_in}
 use Rattle.bus_words.specs.Runs.{own_entries}

@@ -1,5 +1,5 @@
 -- The main part and a port once the main part has seen what the port had seen.
-use Rattle.std.proofs.Common.{◌≡◌, ℕ, ◌≤◌, List, length, map, All, Option, ap, ap₂, sym, ◌∙◌, subst}
+use Rattle.std.proofs.Common.{◌≡◌, ℕ, ◌≤◌, List, [], ◌∷◌, length, map, All, Option, refl, ap, ap₂, sym, ◌∙◌, subst}
 use mathlib.Core.List.{IsPrefix}
 use Rattle.atomic_table.specs.Seated.{TableId}
 use Rattle.fsw_base.specs.declared.config.Budget.{Budget}
@@ -30,6 +30,11 @@ pub own_begins : (app : ℕ) (seen mine : List (ℕ × NotedCall)) → IsPrefix 
 own_begins app seen mine is =
     subst (λ es. IsPrefix es (entries_in mine)) (sym (own-entries_in app seen))
     (entries_in is.0, sym (entries_in-append (entries_of app seen) is.0) ∙ ap entries_in is.1)
+
+-- no port was joined
+pub none_ended : (ended : List (ℕ × List (ℕ × NotedCall))) → map ended_in ended ≡ [] → ended ≡ []
+none_ended [] none = refl
+none_ended (e ∷ ended) none = absurd (cc none)
 
 -- a history of the same limits and budgets, by another knowledge of them
 pub core_same : (f g : Option Fixed) (seen : List (ℕ × NotedCall)) → (the_fixed f).limits ≡ (the_fixed g).limits → (the_fixed f).budgets ≡ (the_fixed g).budgets → core_with f seen ≡ core_with g seen
