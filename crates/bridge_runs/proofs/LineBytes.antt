@@ -77,9 +77,9 @@ fits_alloc m buffers sizes written buf size n f above least =
           set_cases (λ a b. length (bytes_in now a) ≤ b) buffers sizes buf n size k f.len (omega (arith, zeros))
           (omega (arith, ap length (others_stay written n (get_or buffers k 0) (Some (replicate size 0)) same), old));
       long = λ j. elim (n == j) as (λ b. IfSome (cond {A = Option (List ℕ)} b (Some (replicate size 0)) (written j)) (λ bytes. 7 ≤ length bytes)) [
-            | true ↦ omega (arith, length-replicate {A = ℕ} size 0, least)
-            | false ↦ f.long j
-          ];
+        | true ↦ omega (arith, length-replicate {A = ℕ} size 0, least)
+        | false ↦ f.long j
+      ];
       none = ap length (others_stay written n 0 (Some (replicate size 0)) (λ is. absurd (omega (arith, is, above)))) ∙ f.none;
     }
 
