@@ -45,7 +45,10 @@
 //! Each application takes its runner and its two ports to a thread of a scope. All threads are
 //! started before one is waited for. Then the caller runs the applications without a thread, in
 //! order of number. Behind the scope the ports are joined, in order of number, and both services
-//! closed.
+//! closed. Each of these steps is a call of its own (`open_services`, `open_works`, `begin_all`,
+//! `end_all`, `join_all`), so that who runs one application more beside a script's, as a bridge,
+//! runs the script's by the same calls. Proofs take that one as an application of the script
+//! (`whole_of`), with lines that would take its budget.
 #![tactic(auto)]
 
 mod joining;
