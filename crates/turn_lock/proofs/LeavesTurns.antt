@@ -1,5 +1,6 @@
 -- The steps by which a turn is left keep the rule.
-use Rattle.std.proofs.Common.{◌≡◌, ◌≢◌, ℕ, List, [], ◌∷◌, ◌++◌, get_or, set, true, refl, sym, ap, ◌∙◌, subst, ⊎_elim, inl, inr, arith, Option, Some, length-set}
+use Rattle.std.proofs.Common.{◌≡◌, ◌≢◌, ℕ, List, [], ◌∷◌, ◌++◌, get_or, set, true, refl, sym, ap, ◌∙◌, subst, ⊎_elim, inl, inr, arith, All, Option, Some, length-set}
+use Rattle.std.proofs.lemmas.List.Elements.{All-nil}
 use mathlib.Core.Option.{some}
 use mathlib.Core.List.{IsPrefix}
 use Rattle.atomic_table.specs.Table.{Me, Allows, keeps, gives}
@@ -12,8 +13,12 @@ use Rattle.turn_lock.specs.Rule.{Fits, IsHome, IsOutWithOne, Kept}
 use Rattle.turn_lock.specs.Steps.{Grows, Passes}
 use Rattle.turn_lock.proofs.LockWords.{turn_set, turn_kept}
 use Rattle.turn_lock.proofs.Entries.{entries_of-append_other}
-use Rattle.turn_lock.proofs.Stages.{off, live_there}
+use Rattle.turn_lock.proofs.Stages.{off, live_there, live_not_main}
 use Rattle.turn_lock.proofs.ViewLists.{each_set, differ_set, alone, main_set}
+
+-- an application is none of no ended ones
+none_apart : {A : Type 0} (app : ℕ) (ended : List (ℕ × A)) → ended ≡ [] → All (λ e. app ≢ e.0) ended
+none_apart app ended none = subst (All (λ e. app ≢ e.0)) (sym none) (All-nil (λ e. app ≢ e.0))
 
 some_one : {A : Type 0} {a b : A} → Some a ≡ Some b → a ≡ b
 some_one e = cc e
@@ -67,7 +72,7 @@ module _ {T F E : Type 0} (fixed : T → F) (history : T → List (ℕ × E)) (o
                 mine = λ c. others u.app (λ same. d.apps live c (sym same)) ∙ g.mine c;
                 served = λ c. absurd (idle j u other e c);
                 ended = λ k x i. others (get_or u.ended k x).0 (λ same. d.left live k x i (sym same)) ∙ g.ended k x i;
-                alive = g.alive;
+                none = g.none;
               })
               record {
                 opening = λ _. f.opening (live_there v.stage live);
@@ -75,8 +80,8 @@ module _ {T F E : Type 0} (fixed : T → F) (history : T → List (ℕ × E)) (o
                 joined = prefix_trans v.joined h.log log f.joined extends;
                 mine = λ _. refl;
                 served = λ c. absurd (off c);
-                ended = λ k x i. others (get_or v.ended k x).0 (λ same. f.alive live k x i (sym same)) ∙ f.ended k x i;
-                alive = λ _. f.alive live;
+                ended = λ k x i. others (get_or v.ended k x).0 (λ same. none_apart v.app v.ended (f.none (live_not_main v.stage live)) k x i (sym same)) ∙ f.ended k x i;
+                none = λ _. f.none (live_not_main v.stage live);
               };
           differ = differ_set s.views id w h.differ (λ j u other e. let d = h.differ id j v u (λ y. other (sym y)) at e in record { turns = λ c. absurd (off c); apps = λ _. d.apps live; left = λ _. d.left live; right = d.right; mains = λ c _. absurd (off c) });
           main = main_set h.log log s.views id v w at live refl refl refl others h.main;

@@ -77,8 +77,10 @@
 //! seat's own entries, in order. `leave` takes a history that is the one found with entries of the
 //! seat's application behind it. `join` keeps the longer of two histories, in which only
 //! applications that were split off have entries. `close` gives a history that has of each
-//! application just its seat's entries, in order, and no others (`specs/Rule.antt`). A seat that
-//! left its turn to sleep begins no turn before it slept or said that it stays awake. A turn that
+//! application just its seat's entries, in order, and no others (`specs/Rule.antt`). `meet` has the
+//! main seat see what a seat has seen; of the seat's application there is nothing there but the
+//! seat's own entries, so who meets all seats knows which have made none. A seat that left its turn
+//! to sleep begins no turn before it slept or said that it stays awake. A turn that
 //! isn't left to sleep ends by `leave_and_wake` if and only if there are sleepers and the value has
 //! news; that this wakes them is by reading.
 //!
