@@ -1,5 +1,6 @@
-pub mod Histories
 pub mod Inside
+pub mod Laws
 pub mod Lending
+pub mod Looks
 pub mod Ports
-pub mod Turns
+pub mod Words

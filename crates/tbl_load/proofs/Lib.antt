@@ -1,3 +1,4 @@
+pub mod Allowances
 pub mod BagViews
 pub mod Budgets
 pub mod CallEffects
@@ -9,7 +10,9 @@ pub mod NoteRoom
 pub mod Notes
 mod OpeningBags
 pub mod OthersBags
+pub mod OthersCalls
 pub mod OwnHandles
 pub mod PermitTests
+pub mod Standings
 mod TablePlaces
 mod Versions

@@ -1,11 +1,5 @@
-mod Allowances
-mod ApplicationCounts
 mod EmptyBags
-mod Histories
-mod Mains
-mod OthersCalls
+mod Openings
 mod PermitTests
-mod Standings
 pub mod Threads
-mod TurnFinds
 mod Visits

@@ -1,4 +1,4 @@
-pub mod Histories
 pub mod Inside
+pub mod Laws
 pub mod Ports
-pub mod Turns
+pub mod Words
