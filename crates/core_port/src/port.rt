@@ -64,6 +64,7 @@ impl<K: Kind> Port<K> {
         ensures mine { own_entries K.words self.now.app (K.words.entries self.now.seen) ≡
             self.now.mine }
     {
+        K::laws();
         let _ = &self.app;
     }
 
@@ -84,6 +85,7 @@ impl<K: Kind> Port<K> {
         ensures bag { C.has_bag self.new.seen self.old.app bag.new }
         ensures left { V.leaves call bag.old bag.new result }
     {
+        K::laws();
         // While an application waits, its only call but looks is its end. It doesn't sleep before.
         service.lock.stay_awake(&mut self.seat);
         let mut turn = begin(service, rt, &mut self.seat);
@@ -115,6 +117,8 @@ impl<K: Kind> Port<K> {
         ensures bag { C.has_bag self.new.seen self.old.app bag.new }
         ensures left { V.leaves bag.old bag.new result }
     {
+        K::laws();
+        V::look_laws();
         service.lock.sleep(rt, &mut self.seat);
         let mut turn = begin(service, rt, &mut self.seat);
         let told = turn.value_mut().look::<V>(self.app, bag);

@@ -89,12 +89,13 @@ pub trait PortLook<K: Kind, C: ServedCore<K>> {
         ensures bag { C.has_bag (C.seen core.new) app bag.new }
         ensures left { leaves bag.old bag.new result };
 
-    ghost in_vain: { (s t : K.Seen) → (app : ℕ) → (told : Self.Told) → looks s t app told →
-        vain told ≡ true → t ≡ s };
-
-    ghost found: { (s t : K.Seen) → (app : ℕ) → (told : Self.Told) → looks s t app told →
-        vain told ≡ false → K.words.does s t app (call s app) (answer told) };
-
-    ghost same_call: { (s t : K.Seen) → (app : ℕ) → 1 ≤ app → K.words.others s t app →
-        call t app ≡ call s app };
+    /// A look in vain leaves the core. One that found something is a call, and others' entries
+    /// leave which call it is. Does nothing.
+    fn look_laws()
+        ensures in_vain { (s t : K.Seen) → (app : ℕ) → (told : Self.Told) → looks s t app told →
+            vain told ≡ true → t ≡ s }
+        ensures found { (s t : K.Seen) → (app : ℕ) → (told : Self.Told) → looks s t app told →
+            vain told ≡ false → K.words.does s t app (call s app) (answer told) }
+        ensures same_call { (s t : K.Seen) → (app : ℕ) → 1 ≤ app → K.words.others s t app →
+            call t app ≡ call s app };
 }

@@ -67,6 +67,7 @@ impl<K: Kind> Main<K> {
         ensures others { (app : ℕ) → ¬ (Contains self.now.apps app) →
             own_entries K.words app (K.words.entries self.now.seen) ≡ [] }
     {
+        K::laws();
         let _ = &self.seat;
     }
 
@@ -76,6 +77,7 @@ impl<K: Kind> Main<K> {
         ensures first { 1 ≤ app }
         ensures budget { result ≡ budget_of (K.words.fixed self.now.seen).budgets app }
     {
+        K::laws();
         self.budgets[(app.get() - 1) as usize]
     }
 
@@ -83,6 +85,7 @@ impl<K: Kind> Main<K> {
     pub fn view_room(&self) -> u32
         ensures { result ≡ K.words.view_room (K.words.fixed self.now.seen).limits }
     {
+        K::laws();
         self.view_room
     }
 }
@@ -106,6 +109,7 @@ impl<K: Kind, C: ServedCore<K> + Drop> Service<K, C> {
             (λ opened. opened.1 ≡
             record { lock = opened.0; seen = C.seen core; apps = []; ended = [] }) }
     {
+        K::laws();
         let given = budgets.to_vec(alloc)?;
         let boxed = BoxedCore::new(alloc, core)?;
         boxed.recall();
@@ -131,6 +135,7 @@ impl<K: Kind, C: ServedCore<K> + Drop> Service<K, C> {
             record { lock = self.now; app = app; seen = main.old.seen; mine = [] } }
         ensures apps { main.new ≡ record main.old { apps = main.old.apps ++ app ∷ [] } }
     {
+        K::laws();
         let _ = app.get();
         let seat = self.lock.split(&mut main.seat, app);
         Port { seat, app, permits }
@@ -146,6 +151,7 @@ impl<K: Kind, C: ServedCore<K> + Drop> Service<K, C> {
         ensures apps { main.new.apps ≡ main.old.apps }
         ensures ended { main.new.ended ≡ main.old.ended ++ (port.app, port.mine) ∷ [] }
     {
+        K::laws();
         let Port {
             seat,
             app: _,
@@ -168,6 +174,7 @@ impl<K: Kind, C: ServedCore<K> + Drop> Service<K, C> {
         ensures others { (app : ℕ) → ¬ (Contains main.apps app) →
             own_entries K.words app (K.words.entries (C.seen result)) ≡ [] }
     {
+        K::laws();
         let Service { lock } = self;
         let Main {
             seat,

@@ -68,6 +68,7 @@ pub(crate) fn pause<K: Kind, C: ServedCore<K> + Drop>(
     requires opening { Some (K.words.fixed turn.value.core) ≡ turn.view.fixed }
     requires none { history_of K.words turn.value.core ≡ turn.view.seen }
     ensures seat { IsIn seat.new service.now }
+    ensures rests { seat.new.rests ≡ true }
     ensures view { view_of seat.new ≡ left_view turn.view
         (history_of K.words turn.value.core) }
     ensures sound { K.words.sound turn.value.core }

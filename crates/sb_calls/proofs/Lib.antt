@@ -12,7 +12,6 @@ pub mod NoteRoom
 pub mod Notes
 mod OpeningBags
 pub mod OthersBags
-pub mod OthersCalls
 pub mod PermitTests
 pub mod PipeMessages
 pub mod UnsentBuffers

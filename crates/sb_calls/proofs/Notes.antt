@@ -78,13 +78,6 @@ due-append [] more (n ∷ notes) others due rest = absurd due
 due-append (e ∷ es) more [] others due rest = absurd due
 due-append (e ∷ es) more (n ∷ notes) others due rest = (due.0, due-append es more notes others due.1 rest)
 
--- where the notes of a history are due, so are those of its two parts
-pub due-parts : (es more : List Entry) (notes others : List Note) → length notes ≡ length es → AreDue (es ++ more) (notes ++ others) → AreDue es notes × AreDue more others
-due-parts [] more [] others even due = (tt, due)
-due-parts [] more (n ∷ notes) others even due = absurd (omega (arith, even))
-due-parts (e ∷ es) more [] others even due = absurd (omega (arith, even))
-due-parts (e ∷ es) more (n ∷ notes) others even due = let rest = due-parts es more notes others (omega (arith, even)) due.1 in ((due.0, rest.0), rest.1)
-
 -- without the last entry and its note
 pub due-front : (es : List Entry) (e : Entry) (notes : List Note) (note : Note) → AreDue (es ++ e ∷ []) (notes ++ note ∷ []) → AreDue es notes
 due-front [] e [] note due = tt

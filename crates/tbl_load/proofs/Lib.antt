@@ -1,4 +1,3 @@
-pub mod Allowances
 pub mod BagViews
 pub mod Budgets
 pub mod CallEffects
@@ -10,9 +9,7 @@ pub mod NoteRoom
 pub mod Notes
 mod OpeningBags
 pub mod OthersBags
-pub mod OthersCalls
 pub mod OwnHandles
 pub mod PermitTests
-pub mod Standings
 mod TablePlaces
 mod Versions

@@ -13,9 +13,9 @@ use Rattle.core_port.proofs.Histories.{none_of_them}
 use Rattle.tbl_service.specs.Ports.{left_by, own_entries}
 use Rattle.tbl_service.specs.Words.{Tells}
 use Rattle.tbl_service.specs.declared.permits.Permits.{Permits}
-use Rattle.tbl_load.proofs.Allowances.{allowed_by_own}
+use Rattle.tbl_service.proofs.Allowances.{allowed_by_own}
 use Rattle.tbl_service.proofs.PermitTests.{at_most, tested}
-use Rattle.tbl_load.proofs.OthersCalls.{open_alone}
+use Rattle.tbl_service.proofs.OthersCalls.{open_alone}
 
 -- what an application's own entries leave is what the history leaves
 pub own_left : (core : Core) (app : ℕ) (mine : List Entry) → 1 ≤ app → app ≤ length core.log.budgets → All (λ (e : Entry). 1 ≤ e.app) core.log.entries → own_entries app core.log.entries ≡ mine →

@@ -1,4 +1,3 @@
 pub mod Inside
-pub mod Laws
 pub mod Ports
 pub mod Words

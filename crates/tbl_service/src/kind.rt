@@ -36,7 +36,6 @@ pub struct TblKind;
 
 impl Kind for TblKind {
     ghost use Rattle.tbl_service.specs.Words.{tables};
-    ghost use Rattle.tbl_service.specs.Laws.{table_laws};
 
     type Seen = SeenTables;
 
@@ -50,7 +49,7 @@ impl Kind for TblKind {
 
     ghost words = { tables };
 
-    ghost laws = { table_laws };
+    fn laws() {}
 }
 
 impl<'r> ServedCore<TblKind> for TblCore<'r> {

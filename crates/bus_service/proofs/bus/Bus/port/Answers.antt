@@ -25,17 +25,17 @@ port-port-requires-clause-main c = c.requires.main ∙ sym c.self.view_is
 pub port-port-requires-clause-tells : goal.port-port-requires-clause-tells
 port-port-requires-clause-tells c =
     let allowance : Budget → Allowance = λ b. record { entries = b.entries; bytes = b.bytes } in
-    fresh_permits c.args.main.now.seen c.args.app _ c.budget.ensures.first c.requires.known c.recall.ensures.called (c.recall.ensures.others c.args.app c.requires.new) (ap allowance c.budget.ensures.budget) refl refl
+    fresh_permits c.args.main.now.seen c.args.app _ c.budget-budget.ensures.first c.requires.known c.recall.ensures.called (c.recall.ensures.others c.args.app c.requires.new) (ap allowance c.budget-budget.ensures.budget) refl refl
 
 pub invariant_of-result : goal.invariant_of-result
 invariant_of-result c =
     let bag = c.in_ok-bag.bag in
     subst (λ (p : DoneView). HasBag p.seen p.app bag) (sym c.port-port.ensures.port)
-    (empty_bag c.args.main.now.seen c.args.app bag c.budget.ensures.first c.recall.ensures.called (c.recall.ensures.others c.args.app c.requires.new)
+    (empty_bag c.args.main.now.seen c.args.app bag c.budget-budget.ensures.first c.recall.ensures.called (c.recall.ensures.others c.args.app c.requires.new)
     (ap (λ (b : Holding LentBytes). b.views) c.in_ok-bag.ensures) (ap (λ (b : Holding LentBytes). b.buffers) c.in_ok-bag.ensures)
     (omega (arith, c.view_room.ensures, ap (λ (b : Holding LentBytes). b.view_room) c.in_ok-bag.ensures)))
 
 pub returns-clause-port : goal.returns-clause-port
 returns-clause-port c =
     ap₂ (λ (p : DoneView) (h : Holding LentBytes). with_bag p h) c.port-port.ensures.port c.in_ok-bag.ensures
-    ∙ ap₂ (fresh_port c.args.app c.args.main.now.seen) c.self.view_is (ap₂ empty_holding c.view_room.ensures (ap (λ (b : Budget). b.buffers) c.budget.ensures.budget))
+    ∙ ap₂ (fresh_port c.args.app c.args.main.now.seen) c.self.view_is (ap₂ empty_holding c.view_room.ensures (ap (λ (b : Budget). b.buffers) c.budget-budget.ensures.budget))

@@ -16,9 +16,9 @@ look-told-requires-clause-may g c =
     let app = c.self.inside.app in
     let old = c.value_mut.result.now.core in
     let entered = entered_from w _ _ _ _ c.sleep.ensures.view c.value_mut.ensures.value c.begin-turn.ensures.entered in
-    let others = others_called w g.K.Kind.laws s app c.self.inside.permits c.self.invariant old entered in
-    subst (λ call. w.may old app call) (sym (g.met.V.PortLook.same_call (seen_in w s) old app c.self.invariant.first others))
-    (may_found w g.K.Kind.laws s app c.self.inside.permits c.self.invariant old entered (g.V.PortLook.call (seen_in w s) app)
+    let others = others_called w c.laws.ensures s app c.self.inside.permits c.self.invariant old entered in
+    subst (λ call. w.may old app call) (sym (c.look_laws.ensures.same_call (seen_in w s) old app c.self.invariant.first others))
+    (may_found w c.laws.ensures s app c.self.inside.permits c.self.invariant old entered (g.V.PortLook.call (seen_in w s) app)
     (subst (λ (p : PortView _ _). w.may p.seen p.app (g.V.PortLook.call p.seen p.app)) (sym c.self.view_is) c.requires.may))
 
 pub look-told-requires-clause-bag : goal.look-told-requires-clause-bag
@@ -29,7 +29,7 @@ look-told-requires-clause-bag g c =
     let old = c.value_mut.result.now.core in
     let entered = entered_from w _ _ _ _ c.sleep.ensures.view c.value_mut.ensures.value c.begin-turn.ensures.entered in
     g.met.C.ServedCore.still_has (seen_in w s) old app c.args.bag.now
-    (others_called w g.K.Kind.laws s app c.self.inside.permits c.self.invariant old entered)
+    (others_called w c.laws.ensures s app c.self.inside.permits c.self.invariant old entered)
     (subst (λ (p : PortView _ _). g.C.ServedCore.has_bag p.seen p.app c.args.bag.now) (sym c.self.view_is) c.requires.bag)
 
 -- In vain. --
@@ -40,8 +40,8 @@ permits-requires g c =
     let entered = entered_from w _ _ _ _ c.sleep.ensures.view c.value_mut.ensures.value c.begin-turn.ensures.entered in
     let vain = sym c.is_vain.ensures ∙ c.if-is_vain.true in
     subst (λ (k : BoxedView _). c.self.inside.app ≤ length (w.fixed k.core).budgets) (sym c.value.ensures)
-    (subst (λ core. c.self.inside.app ≤ length (w.fixed core).budgets) (sym (g.met.V.PortLook.in_vain c.value_mut.result.now.core c.look-told.new.self.core c.self.inside.app c.look-told.result c.look-told.ensures.looks (sym c.is_vain.ensures ∙ c.if-is_vain.true)))
-    (known_found w g.K.Kind.laws c.self.inside.seat c.self.inside.app c.self.inside.permits c.self.invariant c.value_mut.result.now.core entered))
+    (subst (λ core. c.self.inside.app ≤ length (w.fixed core).budgets) (sym (c.look_laws.ensures.in_vain c.value_mut.result.now.core c.look-told.new.self.core c.self.inside.app c.look-told.result c.look-told.ensures.looks (sym c.is_vain.ensures ∙ c.if-is_vain.true)))
+    (known_found w c.laws.ensures c.self.inside.seat c.self.inside.app c.self.inside.permits c.self.invariant c.value_mut.result.now.core entered))
 
 pub pause-requires-clause-opening : goal.pause-requires-clause-opening
 pause-requires-clause-opening g c =
@@ -49,14 +49,14 @@ pause-requires-clause-opening g c =
     let entered = entered_from w _ _ _ _ c.sleep.ensures.view c.value_mut.ensures.value c.begin-turn.ensures.entered in
     let view = view_from w _ _ _ _ c.sleep.ensures.view c.value_mut.ensures.value _ c.begin-turn.ensures.view in
     let vain = sym c.is_vain.ensures ∙ c.if-is_vain.true in
-    ap (λ core. Some (w.fixed core)) (g.met.V.PortLook.in_vain c.value_mut.result.now.core c.look-told.new.self.core c.self.inside.app c.look-told.result c.look-told.ensures.looks (sym c.is_vain.ensures ∙ c.if-is_vain.true)) ∙ entered.opening ∙ sym (ap (λ v. v.fixed) view)
+    ap (λ core. Some (w.fixed core)) (c.look_laws.ensures.in_vain c.value_mut.result.now.core c.look-told.new.self.core c.self.inside.app c.look-told.result c.look-told.ensures.looks (sym c.is_vain.ensures ∙ c.if-is_vain.true)) ∙ entered.opening ∙ sym (ap (λ v. v.fixed) view)
 
 pub pause-requires-clause-none : goal.pause-requires-clause-none
 pause-requires-clause-none g c =
     let w = g.K.Kind.words in
     let view = view_from w _ _ _ _ c.sleep.ensures.view c.value_mut.ensures.value _ c.begin-turn.ensures.view in
     let vain = sym c.is_vain.ensures ∙ c.if-is_vain.true in
-    ap (history_of w) (g.met.V.PortLook.in_vain c.value_mut.result.now.core c.look-told.new.self.core c.self.inside.app c.look-told.result c.look-told.ensures.looks (sym c.is_vain.ensures ∙ c.if-is_vain.true)) ∙ sym (ap (λ v. v.seen) view)
+    ap (history_of w) (c.look_laws.ensures.in_vain c.value_mut.result.now.core c.look-told.new.self.core c.self.inside.app c.look-told.result c.look-told.ensures.looks (sym c.is_vain.ensures ∙ c.if-is_vain.true)) ∙ sym (ap (λ v. v.seen) view)
 
 pub invariant_of-self : goal.invariant_of-self
 invariant_of-self g c =
@@ -67,9 +67,9 @@ invariant_of-self g c =
     let new = c.look-told.new.self.core in
     let entered = entered_from w _ _ _ _ c.sleep.ensures.view c.value_mut.ensures.value c.begin-turn.ensures.entered in
     let view = view_from w _ _ _ _ c.sleep.ensures.view c.value_mut.ensures.value _ c.begin-turn.ensures.view in
-    let still = g.met.V.PortLook.in_vain c.value_mut.result.now.core c.look-told.new.self.core c.self.inside.app c.look-told.result c.look-told.ensures.looks (sym c.is_vain.ensures ∙ c.if-is_vain.true) in
+    let still = c.look_laws.ensures.in_vain c.value_mut.result.now.core c.look-told.new.self.core c.self.inside.app c.look-told.result c.look-told.ensures.looks (sym c.is_vain.ensures ∙ c.if-is_vain.true) in
     let now = c.pause.ensures.view ∙ ap (λ v. left_view v (history_of w new)) view ∙ ap (λ core. left_view (entered_view (view_of s) (history_of w old)) (history_of w core)) still in
-    stays_idle w g.K.Kind.laws s app c.self.inside.permits c.self.invariant old entered c.pause.new.seat now c.permits.result c.args.service.now c.pause.ensures.seat
+    stays_idle w c.laws.ensures s app c.self.inside.permits c.self.invariant old entered c.pause.new.seat now c.permits.result c.args.service.now c.pause.ensures.seat
     (subst (λ core. w.tells core app c.permits.result) (ap (λ (k : BoxedView _). k.core) c.value.ensures ∙ still) c.permits.ensures)
 
 pub returns-then-is_vain-clause-answers : goal.returns-then-is_vain-clause-answers
@@ -83,12 +83,12 @@ returns-then-is_vain-clause-answers g c =
     let vain = sym c.is_vain.ensures ∙ c.if-is_vain.true in
     let entered = entered_from w _ _ _ _ c.sleep.ensures.view c.value_mut.ensures.value c.begin-turn.ensures.entered in
     let view = view_from w _ _ _ _ c.sleep.ensures.view c.value_mut.ensures.value _ c.begin-turn.ensures.view in
-    let still = (g.met.V.PortLook.in_vain c.value_mut.result.now.core c.look-told.new.self.core c.self.inside.app c.look-told.result c.look-told.ensures.looks (sym c.is_vain.ensures ∙ c.if-is_vain.true)) in
+    let still = (c.look_laws.ensures.in_vain c.value_mut.result.now.core c.look-told.new.self.core c.self.inside.app c.look-told.result c.look-told.ensures.looks (sym c.is_vain.ensures ∙ c.if-is_vain.true)) in
     let now = c.pause.ensures.view ∙ ap (λ v. left_view v (history_of w new)) view ∙ ap (λ core. left_view (entered_view (view_of s) (history_of w old)) (history_of w core)) still in
     let lock = c.pause.ensures.seat.lock ∙ sym (ap (λ (p : PortView _ _). p.lock) c.self.view_is ∙ c.requires.service) in
     subst (λ (p : PortView _ _). AnswersLook w p (port_in w c.pause.new.seat app) (λ x y. g.V.PortLook.looks x y p.app c.look-told.result) (look_entries w p.app (g.V.PortLook.call p.seen p.app) answer (g.V.PortLook.vain c.look-told.result))) c.self.view_is
     (subst (λ (b : Bool). AnswersLook w (port_in w s app) (port_in w c.pause.new.seat app) (λ x y. g.V.PortLook.looks x y app c.look-told.result) (look_entries w app (g.V.PortLook.call (seen_in w s) app) answer b)) (sym vain)
-    (idle w g.K.Kind.laws s app c.self.inside.permits c.self.invariant old entered c.pause.new.seat now new (λ x y. g.V.PortLook.looks x y app c.look-told.result) still c.look-told.ensures.looks lock))
+    (idle w c.laws.ensures s app c.self.inside.permits c.self.invariant old entered c.pause.new.seat now new (λ x y. g.V.PortLook.looks x y app c.look-told.result) still c.look-told.ensures.looks lock))
 
 pub returns-then-is_vain-clause-bag : goal.returns-then-is_vain-clause-bag
 returns-then-is_vain-clause-bag g c =
@@ -99,10 +99,10 @@ returns-then-is_vain-clause-bag g c =
     let new = c.look-told.new.self.core in
     let entered = entered_from w _ _ _ _ c.sleep.ensures.view c.value_mut.ensures.value c.begin-turn.ensures.entered in
     let view = view_from w _ _ _ _ c.sleep.ensures.view c.value_mut.ensures.value _ c.begin-turn.ensures.view in
-    let still = g.met.V.PortLook.in_vain c.value_mut.result.now.core c.look-told.new.self.core c.self.inside.app c.look-told.result c.look-told.ensures.looks (sym c.is_vain.ensures ∙ c.if-is_vain.true) in
+    let still = c.look_laws.ensures.in_vain c.value_mut.result.now.core c.look-told.new.self.core c.self.inside.app c.look-told.result c.look-told.ensures.looks (sym c.is_vain.ensures ∙ c.if-is_vain.true) in
     let now = c.pause.ensures.view ∙ ap (λ v. left_view v (history_of w new)) view ∙ ap (λ core. left_view (entered_view (view_of s) (history_of w old)) (history_of w core)) still in
     subst (λ (p : PortView _ _). g.C.ServedCore.has_bag (seen_in w c.pause.new.seat) p.app c.look-told.new.bag) c.self.view_is
-    (subst (λ core. g.C.ServedCore.has_bag core app c.look-told.new.bag) (still ∙ sym (seen_idle w g.K.Kind.laws s app c.self.inside.permits c.self.invariant old entered c.pause.new.seat now)) c.look-told.ensures.bag)
+    (subst (λ core. g.C.ServedCore.has_bag core app c.look-told.new.bag) (still ∙ sym (seen_idle w c.laws.ensures s app c.self.inside.permits c.self.invariant old entered c.pause.new.seat now)) c.look-told.ensures.bag)
 
 -- With news. --
 
@@ -112,8 +112,8 @@ permits-requires-2 g c =
     let entered = entered_from w _ _ _ _ c.sleep.ensures.view c.value_mut.ensures.value c.begin-turn.ensures.entered in
     let found = sym c.is_vain.ensures ∙ c.if-is_vain.false in
     subst (λ (k : BoxedView _). c.self.inside.app ≤ length (w.fixed k.core).budgets) (sym c.value-2.ensures)
-    (known_after w g.K.Kind.laws c.self.inside.seat c.self.inside.app c.self.inside.permits c.self.invariant c.value_mut.result.now.core entered
-    c.look-told.new.self.core (g.V.PortLook.call c.value_mut.result.now.core c.self.inside.app) (g.V.PortLook.answer c.look-told.result) (g.met.V.PortLook.found c.value_mut.result.now.core c.look-told.new.self.core c.self.inside.app c.look-told.result c.look-told.ensures.looks (sym c.is_vain.ensures ∙ c.if-is_vain.false)))
+    (known_after w c.laws.ensures c.self.inside.seat c.self.inside.app c.self.inside.permits c.self.invariant c.value_mut.result.now.core entered
+    c.look-told.new.self.core (g.V.PortLook.call c.value_mut.result.now.core c.self.inside.app) (g.V.PortLook.answer c.look-told.result) (c.look_laws.ensures.found c.value_mut.result.now.core c.look-told.new.self.core c.self.inside.app c.look-told.result c.look-told.ensures.looks (sym c.is_vain.ensures ∙ c.if-is_vain.false)))
 
 pub finish-requires-clause-made : goal.finish-requires-clause-made
 finish-requires-clause-made g c =
@@ -123,8 +123,8 @@ finish-requires-clause-made g c =
     let entered = entered_from w _ _ _ _ c.sleep.ensures.view c.value_mut.ensures.value c.begin-turn.ensures.entered in
     let view = view_from w _ _ _ _ c.sleep.ensures.view c.value_mut.ensures.value _ c.begin-turn.ensures.view in
     let found = sym c.is_vain.ensures ∙ c.if-is_vain.false in
-    made_one w g.K.Kind.laws c.self.inside.seat c.self.inside.app c.self.inside.permits c.self.invariant old entered
-    new (g.V.PortLook.call old c.self.inside.app) (g.V.PortLook.answer c.look-told.result) (g.met.V.PortLook.found c.value_mut.result.now.core c.look-told.new.self.core c.self.inside.app c.look-told.result c.look-told.ensures.looks (sym c.is_vain.ensures ∙ c.if-is_vain.false)) c.begin-turn.result.view new view refl
+    made_one w c.laws.ensures c.self.inside.seat c.self.inside.app c.self.inside.permits c.self.invariant old entered
+    new (g.V.PortLook.call old c.self.inside.app) (g.V.PortLook.answer c.look-told.result) (c.look_laws.ensures.found c.value_mut.result.now.core c.look-told.new.self.core c.self.inside.app c.look-told.result c.look-told.ensures.looks (sym c.is_vain.ensures ∙ c.if-is_vain.false)) c.begin-turn.result.view new view refl
 
 pub invariant_of-self-2 : goal.invariant_of-self-2
 invariant_of-self-2 g c =
@@ -135,8 +135,8 @@ invariant_of-self-2 g c =
     let new = c.look-told.new.self.core in
     let entered = entered_from w _ _ _ _ c.sleep.ensures.view c.value_mut.ensures.value c.begin-turn.ensures.entered in
     let view = view_from w _ _ _ _ c.sleep.ensures.view c.value_mut.ensures.value _ c.begin-turn.ensures.view in
-    stays_port w g.K.Kind.laws s app c.self.inside.permits c.self.invariant old entered
-    new (g.V.PortLook.call old app) (g.V.PortLook.answer c.look-told.result) (g.met.V.PortLook.found c.value_mut.result.now.core c.look-told.new.self.core c.self.inside.app c.look-told.result c.look-told.ensures.looks (sym c.is_vain.ensures ∙ c.if-is_vain.false)) c.finish.ensures.sound
+    stays_port w c.laws.ensures s app c.self.inside.permits c.self.invariant old entered
+    new (g.V.PortLook.call old app) (g.V.PortLook.answer c.look-told.result) (c.look_laws.ensures.found c.value_mut.result.now.core c.look-told.new.self.core c.self.inside.app c.look-told.result c.look-told.ensures.looks (sym c.is_vain.ensures ∙ c.if-is_vain.false)) c.finish.ensures.sound
     c.finish.new.seat (c.finish.ensures.view ∙ ap (λ v. left_view v (history_of w new)) view)
     c.permits-2.result c.args.service.now (ready_in c.finish.new.seat c.args.service.now c.finish.ensures.seat)
     (subst (λ (k : BoxedView _). w.tells k.core app c.permits-2.result) c.value-2.ensures c.permits-2.ensures)
@@ -153,12 +153,12 @@ returns-clause-answers g c =
     let entered = entered_from w _ _ _ _ c.sleep.ensures.view c.value_mut.ensures.value c.begin-turn.ensures.entered in
     let view = view_from w _ _ _ _ c.sleep.ensures.view c.value_mut.ensures.value _ c.begin-turn.ensures.view in
     let found = sym c.is_vain.ensures ∙ c.if-is_vain.false in
-    let others = others_called w g.K.Kind.laws s app c.self.inside.permits c.self.invariant old entered in
-    let does = subst (λ call. w.does old new app call answer) (g.met.V.PortLook.same_call seen old app c.self.invariant.first others) (g.met.V.PortLook.found c.value_mut.result.now.core c.look-told.new.self.core c.self.inside.app c.look-told.result c.look-told.ensures.looks (sym c.is_vain.ensures ∙ c.if-is_vain.false)) in
+    let others = others_called w c.laws.ensures s app c.self.inside.permits c.self.invariant old entered in
+    let does = subst (λ call. w.does old new app call answer) (c.look_laws.ensures.same_call seen old app c.self.invariant.first others) (c.look_laws.ensures.found c.value_mut.result.now.core c.look-told.new.self.core c.self.inside.app c.look-told.result c.look-told.ensures.looks (sym c.is_vain.ensures ∙ c.if-is_vain.false)) in
     let lock = c.finish.ensures.seat.lock ∙ sym (ap (λ (p : PortView _ _). p.lock) c.self.view_is ∙ c.requires.service) in
     let after = c.finish.ensures.view ∙ ap (λ v. left_view v (history_of w new)) view in
     subst (λ (p : PortView _ _). AnswersLook w p (port_in w c.finish.new.seat app) (λ x y. g.V.PortLook.looks x y p.app c.look-told.result) (look_entries w p.app (g.V.PortLook.call p.seen p.app) answer (g.V.PortLook.vain c.look-told.result))) c.self.view_is
-    (looked w g.K.Kind.laws s app c.self.inside.permits c.self.invariant old entered
+    (looked w c.laws.ensures s app c.self.inside.permits c.self.invariant old entered
     new (g.V.PortLook.call seen app) answer does c.finish.ensures.sound c.finish.new.seat after
     (λ x y. g.V.PortLook.looks x y app c.look-told.result) (g.V.PortLook.vain c.look-told.result) found c.look-told.ensures.looks lock)
 
@@ -172,8 +172,8 @@ returns-clause-bag g c =
     let entered = entered_from w _ _ _ _ c.sleep.ensures.view c.value_mut.ensures.value c.begin-turn.ensures.entered in
     let view = view_from w _ _ _ _ c.sleep.ensures.view c.value_mut.ensures.value _ c.begin-turn.ensures.view in
     let found = sym c.is_vain.ensures ∙ c.if-is_vain.false in
-    let now_seen = seen_after w g.K.Kind.laws s app c.self.inside.permits c.self.invariant old entered
-    new (g.V.PortLook.call old app) (g.V.PortLook.answer c.look-told.result) (g.met.V.PortLook.found c.value_mut.result.now.core c.look-told.new.self.core c.self.inside.app c.look-told.result c.look-told.ensures.looks (sym c.is_vain.ensures ∙ c.if-is_vain.false)) c.finish.ensures.sound
+    let now_seen = seen_after w c.laws.ensures s app c.self.inside.permits c.self.invariant old entered
+    new (g.V.PortLook.call old app) (g.V.PortLook.answer c.look-told.result) (c.look_laws.ensures.found c.value_mut.result.now.core c.look-told.new.self.core c.self.inside.app c.look-told.result c.look-told.ensures.looks (sym c.is_vain.ensures ∙ c.if-is_vain.false)) c.finish.ensures.sound
     c.finish.new.seat (c.finish.ensures.view ∙ ap (λ v. left_view v (history_of w new)) view) in
     subst (λ (p : PortView _ _). g.C.ServedCore.has_bag (seen_in w c.finish.new.seat) p.app c.look-told.new.bag) c.self.view_is
     (subst (λ core. g.C.ServedCore.has_bag core app c.look-told.new.bag) (sym now_seen) c.look-told.ensures.bag)

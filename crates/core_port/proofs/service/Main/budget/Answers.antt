@@ -14,6 +14,6 @@ returns-clause-budget g c =
     let given = c.self.inside.budgets.items in
     let first = subst (λ (n : ℕ). 1 ≤ n) c.get.ensures.value c.get.ensures.first in
     subst (λ (m : MainView _ _). budget ≡ budget_of (w.fixed m.seen).budgets c.args.app) c.self.view_is
-    (main_budget w g.K.Kind.laws c.self.inside.seat given c.self.inside.view_room c.self.invariant c.args.app budget first
+    (main_budget w c.laws.ensures c.self.inside.seat given c.self.inside.view_room c.self.invariant c.args.app budget first
     (subst (λ (m : MainView _ _). c.args.app ≤ length (w.fixed m.seen).budgets) (sym c.self.view_is) c.requires)
     (c.index.ensures ∙ ap (λ (n : ℕ). get_or given (n - 1) budget) c.get.ensures.value))

@@ -7,9 +7,9 @@ use Rattle.core_port.proofs.service.Main.recall.Goals as goal
 pub returns-clause-called : goal.returns-clause-called
 returns-clause-called g c =
     subst (λ (m : MainView _ _). All (λ e. 1 ≤ g.K.Kind.words.caller e) (g.K.Kind.words.entries m.seen)) c.self.view_is
-    (main_called g.K.Kind.words g.K.Kind.laws c.self.inside.seat c.self.inside.budgets.items c.self.inside.view_room c.self.invariant)
+    (main_called g.K.Kind.words c.laws.ensures c.self.inside.seat c.self.inside.budgets.items c.self.inside.view_room c.self.invariant)
 
 pub returns-clause-others : goal.returns-clause-others
 returns-clause-others g c =
     subst (λ (m : MainView _ _). (app : ℕ) → ¬ (Contains m.apps app) → own_entries g.K.Kind.words app (g.K.Kind.words.entries m.seen) ≡ []) c.self.view_is
-    (main_others g.K.Kind.words g.K.Kind.laws c.self.inside.seat c.self.inside.budgets.items c.self.inside.view_room c.self.invariant)
+    (main_others g.K.Kind.words c.laws.ensures c.self.inside.seat c.self.inside.budgets.items c.self.inside.view_room c.self.invariant)

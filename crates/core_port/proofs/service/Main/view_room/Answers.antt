@@ -6,5 +6,5 @@ use Rattle.core_port.proofs.service.Main.view_room.Goals as goal
 pub returns : goal.returns
 returns g c =
     let w = g.K.Kind.words in
-    sym (main_views w g.K.Kind.laws c.self.inside.seat c.self.inside.budgets.items c.self.inside.view_room c.self.invariant)
+    sym (main_views w c.laws.ensures c.self.inside.seat c.self.inside.budgets.items c.self.inside.view_room c.self.invariant)
     ∙ ap (λ (m : MainView _ _). w.view_room (w.fixed m.seen).limits) c.self.view_is

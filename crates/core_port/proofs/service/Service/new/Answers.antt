@@ -11,13 +11,13 @@ opened_main lock core = record { lock = lock; seen = core; apps = []; ended = []
 
 pub new-requires-2-clause-empty : goal.new-requires-2-clause-empty
 new-requires-2-clause-empty g c =
-    no_history g.K.Kind.words g.K.Kind.laws c.in_ok-boxed.boxed.core c.recall.ensures
+    no_history g.K.Kind.words c.laws.ensures c.in_ok-boxed.boxed.core c.recall.ensures
     (ap (λ (k : BoxedView _). g.K.Kind.words.entries k.core) c.in_ok-boxed.ensures ∙ c.requires.empty)
 
 pub invariant_of-result-2 : goal.invariant_of-result-2
 invariant_of-result-2 g c =
     let w = g.K.Kind.words in
-    opens w g.K.Kind.laws c.in_ok-boxed.boxed.core c.recall.ensures
+    opens w c.laws.ensures c.in_ok-boxed.boxed.core c.recall.ensures
     (ap (λ (k : BoxedView _). g.K.Kind.words.entries k.core) c.in_ok-boxed.ensures ∙ c.requires.empty)
     c.in_ok-lock.seat c.in_ok-lock.lock.name c.in_ok-lock.ensures.main c.in_ok-lock.ensures.view
     c.in_ok-given.given.items c.args.view_room
@@ -26,7 +26,7 @@ invariant_of-result-2 g c =
 
 pub returns : goal.returns
 returns g c =
-    opened g.K.Kind.words g.K.Kind.laws c.in_ok-boxed.boxed.core c.recall.ensures
+    opened g.K.Kind.words c.laws.ensures c.in_ok-boxed.boxed.core c.recall.ensures
     (ap (λ (k : BoxedView _). g.K.Kind.words.entries k.core) c.in_ok-boxed.ensures ∙ c.requires.empty)
     c.in_ok-lock.seat c.in_ok-lock.lock.name c.in_ok-lock.ensures.main c.in_ok-lock.ensures.view
     ∙ ap (λ (k : BoxedView _). opened_main c.in_ok-lock.lock.name k.core) c.in_ok-boxed.ensures

@@ -1,7 +1,7 @@
 use Rattle.std.proofs.Common.{◌∙◌, ap₂}
 use Rattle.tbl_words.specs.Tables.{has_ended}
 use Rattle.tbl_load.specs.Core.{state_of}
-use Rattle.tbl_load.proofs.Standings.{ends}
+use Rattle.tbl_service.proofs.Standings.{ends}
 use Rattle.tbl_service.proofs.ports.TblPort.end.Goals as goal
 
 pub returns-clause-ended : goal.returns-clause-ended

@@ -21,7 +21,7 @@ port-port-requires-clause-main c = c.requires.main ∙ sym c.self.view_is
 pub port-port-requires-clause-tells : goal.port-port-requires-clause-tells
 port-port-requires-clause-tells c =
     let allowance : Budget → Allowance = λ b. record { entries = b.entries; bytes = b.bytes } in
-    fresh_permits c.args.main.now.seen c.args.app _ c.budget.ensures.first c.requires.known c.recall.ensures.called (c.recall.ensures.others c.args.app c.requires.new) (ap allowance c.budget.ensures.budget) refl
+    fresh_permits c.args.main.now.seen c.args.app _ c.budget-budget.ensures.first c.requires.known c.recall.ensures.called (c.recall.ensures.others c.args.app c.requires.new) (ap allowance c.budget-budget.ensures.budget) refl
 
 pub invariant_of-result : goal.invariant_of-result
 invariant_of-result c =

@@ -15,9 +15,9 @@ use Rattle.tbl_words.specs.Machine.{LegalFrom, state_from, step}
 use Rattle.tbl_load.specs.Bags.{CalledByOthers}
 use Rattle.tbl_load.specs.Core.{Core, MayCall, IsLegalCore, IsNoted, apps_of, state_of}
 use Rattle.tbl_load.proofs.Journals.{length-left_of}
-use Rattle.tbl_load.proofs.Notes.{due-parts}
-use Rattle.tbl_load.proofs.Allowances.{charged_other}
-use Rattle.tbl_load.proofs.Standings.{callers_from_one, stays_apart, opened}
+use Rattle.tbl_load.specs.Notes.{AreDue}
+use Rattle.tbl_service.proofs.Allowances.{charged_other}
+use Rattle.tbl_service.proofs.Standings.{callers_from_one, stays_apart, opened}
 
 -- Two parts of a history. --
 
@@ -60,6 +60,13 @@ open_alone core app first known callers others =
     still_open core.limits (opening core.limits (apps_of core)) app core.log.entries first callers others (opened core.limits (apps_of core) app first known)
 
 -- Entries behind a core's history. --
+
+-- where the notes of a history are due, so are those of its two parts
+due-parts : (es more : List Entry) (notes others : List Note) → length notes ≡ length es → AreDue (es ++ more) (notes ++ others) → AreDue es notes × AreDue more others
+due-parts [] more [] others even due = (tt, due)
+due-parts [] more (n ∷ notes) others even due = absurd (omega (arith, even))
+due-parts (e ∷ es) more [] others even due = absurd (omega (arith, even))
+due-parts (e ∷ es) more (n ∷ notes) others even due = let rest = due-parts es more notes others (omega (arith, even)) due.1 in ((due.0, rest.0), rest.1)
 
 -- the core with these entries behind its own, and a note beside each
 abbrev with_more : Core → List Entry → List Note → Core

@@ -1,5 +1,5 @@
 -- What others call meanwhile leaves an application as it stands, with what it may still add.
-use Rattle.std.proofs.Common.{◌≡◌, ◌≢◌, ℕ, ◌≤◌, ◌++◌, [], length, IsTrue, refl, ap, sym, ◌∙◌, subst, arith, List}
+use Rattle.std.proofs.Common.{◌≡◌, ◌≢◌, ℕ, ◌≤◌, ◌∷◌, ◌++◌, [], length, IsTrue, refl, ap, sym, ◌∙◌, subst, arith, List}
 use Rattle.std.specs.List.{All}
 use Rattle.lend_block.specs.declared.note.Note.{Note}
 use Rattle.journal_store.specs.declared.allowance.Allowance.{Allowance}
@@ -14,9 +14,16 @@ use Rattle.bus_words.proofs.Journals.{length-left_of}
 use Rattle.bus_words.proofs.OwnEntries.{callers_from_one, legal_back, left_alone, left_further, standing_alone, state_further}
 use Rattle.sb_calls.specs.Bags.{CalledByOthers}
 use Rattle.sb_calls.specs.Core.{Core, MayCall, IsLegalCore, IsNoted, apps_of, state_of}
-use Rattle.sb_calls.proofs.Notes.{due-parts}
+use Rattle.sb_calls.specs.Notes.{AreDue}
 
 -- Entries behind a core's history. --
+
+-- where the notes of a history are due, so are those of its two parts
+due-parts : (es more : List Entry) (notes others : List Note) → length notes ≡ length es → AreDue (es ++ more) (notes ++ others) → AreDue es notes × AreDue more others
+due-parts [] more [] others even due = (tt, due)
+due-parts [] more (n ∷ notes) others even due = absurd (omega (arith, even))
+due-parts (e ∷ es) more [] others even due = absurd (omega (arith, even))
+due-parts (e ∷ es) more (n ∷ notes) others even due = let rest = due-parts es more notes others (omega (arith, even)) due.1 in ((due.0, rest.0), rest.1)
 
 -- the core with these entries behind its own, and a note beside each
 abbrev with_more : Core → List Entry → List Note → Core

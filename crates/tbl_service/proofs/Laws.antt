@@ -5,9 +5,9 @@ use Rattle.tbl_load.specs.Core.{apps_of}
 use Rattle.tbl_load.specs.Notes.{note_due}
 use Rattle.core_port.specs.Words.{Laws}
 use Rattle.tbl_service.specs.Words.{tables}
-use Rattle.tbl_load.proofs.Standings.{callers_from_one}
+use Rattle.tbl_service.proofs.Standings.{callers_from_one}
 use Rattle.tbl_load.proofs.Notes.{even-due}
-use Rattle.tbl_load.proofs.OthersCalls.{may_meanwhile, others_more}
+use Rattle.tbl_service.proofs.OthersCalls.{may_meanwhile, others_more}
 
 pub table_laws : Laws tables
 table_laws = record {

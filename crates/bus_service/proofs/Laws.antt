@@ -7,7 +7,7 @@ use Rattle.core_port.specs.Words.{Laws}
 use Rattle.bus_service.specs.Words.{bus}
 use Rattle.bus_words.proofs.OwnEntries.{callers_from_one}
 use Rattle.sb_calls.proofs.Notes.{even-due}
-use Rattle.sb_calls.proofs.OthersCalls.{may_meanwhile, others_more}
+use Rattle.bus_service.proofs.OthersCalls.{may_meanwhile, others_more}
 
 pub bus_laws : Laws bus
 bus_laws = record {

@@ -1,5 +1,5 @@
 -- What an application may still add is told by its own entries alone.
-use Rattle.std.proofs.Common.{◌≡◌, ℕ, ◌-◌, ◌≤◌, Bool, true, false, cond, true≢false, eqb, eqb-true, List, [], ◌∷◌, length, map, filter, All, refl, ap, sym, ◌∙◌, arith}
+use Rattle.std.proofs.Common.{◌≡◌, ℕ, ◌-◌, ◌≤◌, Bool, true, false, cond, true≢false, eqb, eqb-true, List, [], ◌∷◌, length, map, All, refl, ap, sym, ◌∙◌, arith}
 use Rattle.std.proofs.lemmas.Bool.Decides.{nat_tests}
 use Rattle.std.proofs.lemmas.List.{get_or-set_other, get_or-set_same}
 use Rattle.std.proofs.lemmas.List.Elements.{All-head, All-tail}
@@ -9,10 +9,7 @@ use Rattle.journal_store.proofs.Charges.{length-charged}
 use Rattle.tbl_words.specs.declared.history.Entry.{Entry}
 use Rattle.tbl_words.specs.Entries.{call_bytes}
 use Rattle.tbl_words.specs.Log.{charge_of}
-
--- one application's entries, in order
-abbrev own_entries : ℕ → List Entry → List Entry
-own_entries app es = filter (λ (e : Entry). eqb e.app app) es
+use Rattle.tbl_service.specs.Ports.{own_entries}
 
 -- a charge of one application leaves what another may add
 pub charged_other : (left : List Allowance) (app other bytes : ℕ) → 1 ≤ app → 1 ≤ other → eqb app other ≡ false → allowance_of (charged left app bytes) other ≡ allowance_of left other

@@ -9,7 +9,7 @@ use Rattle.sb_calls.specs.Answers.{waited, is_pending}
 use Rattle.sb_calls.specs.Bags.{CalledByOthers}
 use Rattle.sb_calls.specs.Core.{Core, Does, Looks, state_of}
 use Rattle.sb_calls.proofs.Looks.{pending_is}
-use Rattle.sb_calls.proofs.OthersCalls.{standing_meanwhile}
+use Rattle.bus_service.proofs.OthersCalls.{standing_meanwhile}
 
 pub looked_in_vain : (old new : Core) (app : ℕ) (told : Pended) →
     Looks old new app (waited_on (standing_of (state_of old) app)) told → is_pending told ≡ true →
