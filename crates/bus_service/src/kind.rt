@@ -94,16 +94,17 @@ impl<'r> ServedCore<BusKind> for BusCore<'r> {
 pub(crate) struct LookAgain;
 
 impl<'r> PortLook<BusKind, BusCore<'r>> for LookAgain {
-    ghost use Rattle.std.specs.Prelude.{◌≡◌};
+    ghost use Rattle.std.specs.Prelude.{◌≡◌, ℕ, ◌≤◌, true, false};
     ghost use Rattle.bus_words.specs.Bus.{standing_of, waited_on};
-    ghost use Rattle.bus_words.specs.declared.history.Call.TheVariants as made;
+    ghost use Rattle.bus_words.specs.declared.history.Call.TheVariants.{Look};
     ghost use Rattle.sb_calls.specs.Answers.{waited, is_pending};
-    ghost use Rattle.sb_calls.specs.Core.{Looks, state_of};
+    ghost use Rattle.sb_calls.specs.Bags.{CalledByOthers};
+    ghost use Rattle.sb_calls.specs.Core.{Core, Does, Looks, state_of};
     ghost use Rattle.sb_calls.specs.declared.results.Pended.TheVariants.{Pending};
 
     type Told = Pended;
 
-    ghost call = { λ core app. made.Look (waited_on (standing_of (state_of core) app)) };
+    ghost call = { λ core app. Look (waited_on (standing_of (state_of core) app)) };
 
     ghost answer = { waited };
 
@@ -115,7 +116,9 @@ impl<'r> PortLook<BusKind, BusCore<'r>> for LookAgain {
     ghost leaves = { λ old new told.
         (told ≡ Pending → new ≡ old) × (new ≡ record old { views = new.views }) };
 
-    fn is_vain(told: &Pended) -> bool {
+    fn is_vain(told: &Pended) -> bool
+        ensures { result ≡ is_pending told.now }
+    {
         told.is_pending()
     }
 
@@ -123,7 +126,18 @@ impl<'r> PortLook<BusKind, BusCore<'r>> for LookAgain {
         core.look(app, bag)
     }
 
-    fn look_laws() {}
+    fn look_laws()
+        ensures in_vain { (s t : Core) → (app : ℕ) → (told : Pended) →
+            Looks s t app (waited_on (standing_of (state_of s) app)) told →
+            is_pending told ≡ true → t ≡ s }
+        ensures found { (s t : Core) → (app : ℕ) → (told : Pended) →
+            Looks s t app (waited_on (standing_of (state_of s) app)) told →
+            is_pending told ≡ false →
+            Does s t app (Look (waited_on (standing_of (state_of s) app))) (waited told) }
+        ensures same_call { (s t : Core) → (app : ℕ) → 1 ≤ app → CalledByOthers s t app →
+            Look (waited_on (standing_of (state_of t) app)) ≡
+            Look (waited_on (standing_of (state_of s) app)) }
+    {}
 }
 
 // Whether an application may make its last call, if this tells whether it may make any other: who
