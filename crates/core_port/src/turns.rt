@@ -1,5 +1,5 @@
 //! The two ends of a turn.
-ghost use Rattle.std.specs.Prelude.{◌≡◌, true, Some};
+ghost use Rattle.std.specs.Prelude.{◌≡◌, true, false, Some};
 ghost use Rattle.turn_lock.specs.Seats.{IsOut, IsIn, IsReady, view_of, entered_view, left_view};
 ghost use Rattle.core_port.specs.Histories.{history_of};
 ghost use Rattle.core_port.specs.Turns.{Entered, MadeOne};
@@ -21,6 +21,7 @@ pub(crate) fn begin<K: Kind, C: ServedCore<K> + Drop, R: Wait>(
 ) -> Turn<BoxedCore<K, C>>
     requires { IsReady seat.old service.now }
     ensures out { IsOut seat.new }
+    ensures kept_awake { seat.new.kept_awake ≡ seat.old.kept_awake }
     ensures lock { result.lock ≡ service.now }
     ensures found { result.found ≡ result.value }
     ensures entered { Entered K.words (view_of seat.old) result.value.core }
@@ -57,7 +58,7 @@ pub(crate) fn finish<K: Kind, C: ServedCore<K> + Drop>(
 }
 
 /// Ends a turn in which an application looked in vain: it made no entry, and sleeps before its next
-/// turn.
+/// turn. If its look before was in vain too, it slept in between.
 pub(crate) fn pause<K: Kind, C: ServedCore<K> + Drop>(
     service: &Service<K, C>,
     seat: &mut Seat<Opening, NotedCall<K::Call, K::Answer>>,
@@ -67,6 +68,7 @@ pub(crate) fn pause<K: Kind, C: ServedCore<K> + Drop>(
     requires lock { turn.lock ≡ service.now }
     requires opening { Some (K.words.fixed turn.value.core) ≡ turn.view.fixed }
     requires none { history_of K.words turn.value.core ≡ turn.view.seen }
+    requires slept { seat.old.kept_awake ≡ false }
     ensures seat { IsIn seat.new service.now }
     ensures rests { seat.new.rests ≡ true }
     ensures view { view_of seat.new ≡ left_view turn.view

@@ -5,6 +5,7 @@ pub mod LeavesTurns
 pub mod LockWords
 pub mod Opens
 pub mod SeatKnowledge
+pub mod Sleepers
 pub mod SplitsJoins
 pub mod Stages
 pub mod TakesTurns

@@ -3,7 +3,7 @@ use Rattle.std.proofs.Common.{◌≡◌, ℕ, true, false, true≢false, List, [
 use Rattle.std.proofs.lemmas.List.Elements.{All-head}
 use Rattle.turn_lock.specs.declared.view.View.{View}
 use Rattle.turn_lock.specs.declared.view.Stage.{Stage}
-use Rattle.turn_lock.specs.declared.view.Stage.TheVariants.{Main, Away, Has, Spent}
+use Rattle.turn_lock.specs.declared.view.Stage.TheVariants.{Main, Away, Has, Owes, Spent}
 use Rattle.turn_lock.specs.Views.{is_main}
 use Rattle.turn_lock.specs.Seats.{Known, first_view, AddsOwn}
 use Rattle.turn_lock.specs.Steps.{Grows}
@@ -14,12 +14,14 @@ idle_main : (stage : Stage) → is_idle stage ≡ true → is_main stage ≡ tru
 idle_main Main idle main = refl
 idle_main Away idle main = absurd (off main)
 idle_main Has idle main = absurd (off idle)
+idle_main Owes idle main = absurd (off idle)
 idle_main Spent idle main = absurd (off idle)
 
 idle_away : (stage : Stage) → is_idle stage ≡ true → is_main stage ≡ false → stage ≡ Away
 idle_away Main idle main = absurd (true≢false main)
 idle_away Away idle main = refl
 idle_away Has idle main = absurd (off idle)
+idle_away Owes idle main = absurd (off idle)
 idle_away Spent idle main = absurd (off idle)
 
 module _ {F E : Type 0} where

@@ -1,5 +1,5 @@
 -- The steps by which seats come and end keep the rule.
-use Rattle.std.proofs.Common.{◌≡◌, ◌≢◌, ℕ, ◌+◌, ◌<◌, List, [], ◌∷◌, ◌++◌, length, get_or, set, true, refl, sym, ap, ◌∙◌, subst, ⊎_elim, inl, inr, arith, All, Contains, Option, length-set, length-append}
+use Rattle.std.proofs.Common.{◌≡◌, ◌≢◌, Bool, ℕ, ◌+◌, ◌<◌, List, [], ◌∷◌, ◌++◌, length, get_or, set, true, refl, sym, ap, ◌∙◌, subst, ⊎_elim, inl, inr, arith, All, Contains, Option, length-set, length-append}
 use Rattle.std.proofs.lemmas.List.Elements.{All-nil, All-push, Contains-push, Contains-append_left}
 use mathlib.Core.Logic.{dite}
 use native.Mathlib.Decide.{dec_le}
@@ -11,22 +11,23 @@ use Rattle.atomic_table.proofs.Lists.{at_set, set_else}
 use Rattle.fsw_base.proofs.Prefix.{prefix_shorter}
 use Rattle.turn_lock.specs.declared.view.View.{View}
 use Rattle.turn_lock.specs.declared.view.Stage.TheVariants.{Main, Away}
-use Rattle.turn_lock.specs.Views.{entries_of, is_live, is_served, is_main, is_there, with_seat, seat_place, joined_place, spent_place}
+use Rattle.turn_lock.specs.Views.{entries_of, is_live, is_served, is_away, is_owing, is_main, is_there, with_seat, seat_place, joined_place, spent_place}
 use Rattle.turn_lock.specs.Rule.{Fits, Differ, Each, IsAmong, Governs, IsHomeOrOut, Kept}
 use Rattle.turn_lock.specs.Steps.{Meets}
-use Rattle.turn_lock.proofs.LockWords.{set_same}
+use Rattle.turn_lock.proofs.LockWords.{set_same, bell_kept}
 use Rattle.turn_lock.proofs.Entries.{entries_of-beginning}
 use Rattle.turn_lock.proofs.Stages.{off}
 use Rattle.turn_lock.proofs.TakesTurns.{stays}
 use Rattle.turn_lock.proofs.ViewLists.{set_comm, each_set, each_push, differ_set, differ_push, value_set, value_push}
+use Rattle.turn_lock.proofs.Sleepers.{remembered_set, remembered_push}
 
 -- what is not in a list is none of what is in it
 apart_from : {A : Type 0} (apps : List A) (app other : A) → ¬ (Contains apps app) → Contains apps other → app ≢ other
 apart_from apps app other out there same = out (subst (Contains apps) (sym same) there)
 
-module _ {T F E : Type 0} (fixed : T → F) (history : T → List (ℕ × E)) (opening : F) where
+module _ {T F E : Type 0} (fixed : T → F) (history : T → List (ℕ × E)) (awaited : T → Bool) (opening : F) where
   -- the main seat steps, and only what it has split off changes
-  split_main : (id app : ℕ) (v : View F E) → v.stage ≡ Main → (s : State (Option T) (View F E)) (h : Kept fixed history opening s) → get_elem? s.views id ≡ some v
+  split_main : (id app : ℕ) (v : View F E) → v.stage ≡ Main → (s : State (Option T) (View F E)) (h : Kept fixed history awaited opening s) → get_elem? s.views id ≡ some v
       → (r : Governs h.log s.views v) → ¬ (Contains v.apps app)
       → Governs h.log (set s.views id (with_seat v app) ++ seat_place v app ∷ []) (with_seat v app)
   split_main id app v main s h at r out =
@@ -47,7 +48,7 @@ module _ {T F E : Type 0} (fixed : T → F) (history : T → List (ℕ × E)) (o
       }
 
   pub split_keeps : (id app : ℕ) (v : View F E) → v.stage ≡ Main → length v.apps < 16 → ¬ (Contains v.apps app)
-      → Splits (Kept fixed history opening) id v (with_seat v app) (seat_place v app)
+      → Splits (Kept fixed history awaited opening) id v (with_seat v app) (seat_place v app)
   split_keeps id app v main room out s h at =
       let w : View F E = with_seat v app in
       let n : View F E = seat_place v app in
@@ -58,11 +59,14 @@ module _ {T F E : Type 0} (fixed : T → F) (history : T → List (ℕ × E)) (o
       let r = h.main id v at is_it in
       record {
         log = h.log;
+        noted = h.noted;
+        rings = h.rings;
         words = h.words;
-        each = each_push (Fits opening h.log) mid n
-            (each_set (Fits opening h.log) s.views id w (λ j u other e. h.each j u e)
-            record { opening = f.opening; seen = f.seen; joined = f.joined; mine = f.mine; served = f.served; ended = f.ended; alive = f.alive })
-            record { opening = λ _. f.opening (ap is_there main); seen = f.seen; joined = (h.log, refl); mine = λ _. r.others app out; served = λ c. absurd (off c); ended = All-nil (λ e. entries_of e.0 h.log ≡ e.1); alive = λ _. All-nil (λ e. app ≢ e.0) };
+        bell = h.bell;
+        each = each_push (Fits opening h.log h.noted h.rings) mid n
+            (each_set (Fits opening h.log h.noted h.rings) s.views id w (λ j u other e. h.each j u e)
+            record { found = f.found; heard = f.heard; opening = f.opening; seen = f.seen; joined = f.joined; mine = f.mine; served = f.served; ended = f.ended; alive = f.alive })
+            record { found = λ c. absurd (off c); heard = λ k is. absurd (cc is); opening = λ _. f.opening (ap is_there main); seen = f.seen; joined = (h.log, refl); mine = λ _. r.others app out; served = λ c. absurd (off c); ended = All-nil (λ e. entries_of e.0 h.log ≡ e.1); alive = λ _. All-nil (λ e. app ≢ e.0) };
         differ = differ_push mid n
             (differ_set s.views id w h.differ (λ j u other e. let d = h.differ id j v u (λ x. other (sym x)) at e in record { turns = d.turns; apps = d.apps; left = d.left; right = d.right; mains = d.mains }))
             (each_set (Differ n) s.views id w
@@ -85,12 +89,13 @@ module _ {T F E : Type 0} (fixed : T → F) (history : T → List (ℕ × E)) (o
             (λ j u other e also. absurd ((h.differ id j v u (λ x. other (sym x)) at e).mains is_it also))
             (λ _. split_main id app v main s h at r out))
             (λ c. absurd (off c));
-        value = value_push fixed history opening s.words h.log s.homes mid n off (value_set fixed history opening s.words h.log s.homes s.views id v w at (λ c. off (sym (ap is_served main) ∙ c)) (λ c. off (sym (ap is_served main) ∙ c)) h.value);
+        value = value_push fixed history awaited opening s.words h.log h.noted s.homes mid n off (value_set fixed history awaited opening s.words h.log h.noted s.homes s.views id v w at (λ c. off (sym (ap is_served main) ∙ c)) (λ c. off (sym (ap is_served main) ∙ c)) h.value);
+        sleepers = remembered_push h.noted h.rings mid n (λ _ is. absurd (cc is)) (remembered_set h.noted h.rings s.views id v w at (λ c. off (sym (ap is_owing main) ∙ c)) (λ c _. absurd (off (sym (ap is_away main) ∙ c))) h.sleepers);
       }
 
   -- the main seat has seen more, and nothing else of it changes
-  meet_longer : (id : ℕ) (v : View F E) → v.stage ≡ Main → (s : State (Option T) (View F E)) (h : Kept fixed history opening s) → get_elem? s.views id ≡ some v
-      → Kept fixed history opening record { words = set s.words 0 (get_or s.words 0 0); homes = s.homes; views = set s.views id (record v { seen = v.joined }) }
+  meet_longer : (id : ℕ) (v : View F E) → v.stage ≡ Main → (s : State (Option T) (View F E)) (h : Kept fixed history awaited opening s) → get_elem? s.views id ≡ some v
+      → Kept fixed history awaited opening record { words = set s.words 0 (get_or s.words 0 0); homes = s.homes; views = set s.views id (record v { seen = v.joined }) }
   meet_longer id v main s h at =
       let w : View F E = record v { seen = v.joined } in
       let f = h.each id v at in
@@ -99,18 +104,22 @@ module _ {T F E : Type 0} (fixed : T → F) (history : T → List (ℕ × E)) (o
       let r = h.main id v at is_it in
       record {
         log = h.log;
+        noted = h.noted;
+        rings = h.rings;
         words = length-set s.words 0 (get_or s.words 0 0) ∙ h.words;
-        each = each_set (Fits opening h.log) s.views id w (λ j u other e. h.each j u e)
-            record { opening = f.opening; seen = f.joined; joined = f.joined; mine = f.mine; served = λ c. absurd (idle c); ended = f.ended; alive = f.alive };
+        bell = bell_kept s.words (get_or s.words 0 0) ∙ h.bell;
+        each = each_set (Fits opening h.log h.noted h.rings) s.views id w (λ j u other e. h.each j u e)
+            record { found = f.found; heard = f.heard; opening = f.opening; seen = f.joined; joined = f.joined; mine = f.mine; served = λ c. absurd (idle c); ended = f.ended; alive = f.alive };
         differ = differ_set s.views id w h.differ (λ j u other e. let d = h.differ id j v u (λ y. other (sym y)) at e in record { turns = d.turns; apps = d.apps; left = d.left; right = d.right; mains = d.mains });
         main = each_set (λ u. is_main u.stage ≡ true → Governs h.log (set s.views id w) u) s.views id w
             (λ j u other e also. absurd ((h.differ id j v u (λ y. other (sym y)) at e).mains is_it also))
             (λ _. record { count = length-set s.views id w ∙ r.count; others = r.others; all = each_set (IsAmong v.apps) s.views id w (λ j u other e. r.all j u e) record { live = (r.all id v at).live; ended = (r.all id v at).ended } });
-        value = subst (λ (l : List ℕ). IsHomeOrOut fixed history opening l h.log s.homes (set s.views id w)) (sym (set_same s.words 0)) (value_set fixed history opening s.words h.log s.homes s.views id v w at idle idle h.value);
+        value = subst (λ (l : List ℕ). IsHomeOrOut fixed history awaited opening l h.log h.noted s.homes (set s.views id w)) (sym (set_same s.words 0)) (value_set fixed history awaited opening s.words h.log h.noted s.homes s.views id v w at idle idle h.value);
+        sleepers = remembered_set h.noted h.rings s.views id v w at (λ c. off (sym (ap is_owing main) ∙ c)) (λ c _. absurd (off (sym (ap is_away main) ∙ c))) h.sleepers;
       }
 
   pub meet_keeps : (slots id : ℕ) (me : Me (Option T) (View F E)) → me.0.stage ≡ Main
-      → Allows (Kept fixed history opening) slots id me 0 (λ n. n) (λ found now. Meets me now)
+      → Allows (Kept fixed history awaited opening) slots id me 0 (λ n. n) (λ found now. Meets me now)
   meet_keeps slots id me main s h homes at small =
       let v : View F E = me.0 in
       let f = h.each id v at in
@@ -127,7 +136,7 @@ module _ {T F E : Type 0} (fixed : T → F) (history : T → List (ℕ × E)) (o
         v,
         keeps,
         tt,
-        stays fixed history opening s h 0 id v at,
+        stays fixed history awaited opening s h 0 id v at,
         (refl, inr (prefix_shorter v.joined v.seen h.log f.joined f.seen (omega arith), refl), λ app out. entries_of-beginning app v.seen h.log f.seen (r.others app out)),
       ))
 
@@ -136,7 +145,7 @@ module _ {T F E : Type 0} (fixed : T → F) (history : T → List (ℕ × E)) (o
   each_joined Q views id other b z old spent here = each_set Q (set views other z) id b (λ j u away e. each_set Q views other z (λ i x away' e'. old i x e') spent j u e) here
 
   -- the main seat with an ended one's entries differs from every other
-  differ_joined : (id other : ℕ) (v w : View F E) → v.stage ≡ Main → w.stage ≡ Away → (s : State (Option T) (View F E)) (h : Kept fixed history opening s) → get_elem? s.views id ≡ some v → get_elem? s.views other ≡ some w
+  differ_joined : (id other : ℕ) (v w : View F E) → v.stage ≡ Main → w.stage ≡ Away → (s : State (Option T) (View F E)) (h : Kept fixed history awaited opening s) → get_elem? s.views id ≡ some v → get_elem? s.views other ≡ some w
       → (j : ℕ) (u : View F E) → j ≢ id → j ≢ other → get_elem? s.views j ≡ some u → Differ (joined_place v w) u
   differ_joined id other v w main away s h at at' j u not_main not_ended e =
       let d = h.differ id j v u (λ x. not_main (sym x)) at e in
@@ -155,7 +164,7 @@ module _ {T F E : Type 0} (fixed : T → F) (history : T → List (ℕ × E)) (o
   joined_differs_spent : (v w : View F E) → v.stage ≡ Main → Differ (joined_place v w) spent_place
   joined_differs_spent v w main = record { turns = λ _ c. absurd (off c); apps = λ _ c. absurd (off c); left = λ _. All-nil (λ e. v.app ≢ e.0); right = λ c. absurd (off c); mains = λ _ c. absurd (off c) }
 
-  pub join_keeps : (id other : ℕ) (v w : View F E) → v.stage ≡ Main → w.stage ≡ Away → Joins (Kept fixed history opening) id v other w (joined_place v w) spent_place
+  pub join_keeps : (id other : ℕ) (v w : View F E) → v.stage ≡ Main → w.stage ≡ Away → Joins (Kept fixed history awaited opening) id v other w (joined_place v w) spent_place
   join_keeps id other v w main away s h at apart there =
       let b : View F E = joined_place v w in
       let z : View F E = spent_place in
@@ -172,12 +181,15 @@ module _ {T F E : Type 0} (fixed : T → F) (history : T → List (ℕ × E)) (o
       let live : is_live w.stage ≡ true = ap is_live away in
       let r = h.main id v at is_it in
       let long : length fin ≡ length s.views = length-set mid id b ∙ length-set s.views other z in
-      subst (λ (l : List (View F E)). Kept fixed history opening record { words = s.words; homes = s.homes; views = l }) (set_comm s.views other id z b apart) record {
+      subst (λ (l : List (View F E)). Kept fixed history awaited opening record { words = s.words; homes = s.homes; views = l }) (set_comm s.views other id z b apart) record {
         log = h.log;
+        noted = h.noted;
+        rings = h.rings;
         words = h.words;
-        each = each_joined (Fits opening h.log) s.views id other b z (λ j u e. h.each j u e)
-            record { opening = λ c. absurd (off c); seen = (h.log, refl); joined = (h.log, refl); mine = λ c. absurd (off c); served = λ c. absurd (off c); ended = All-nil (λ e. entries_of e.0 h.log ≡ e.1); alive = λ c. absurd (off c) }
-            record { opening = f.opening; seen = f.seen; joined = g.seen; mine = f.mine; served = f.served; ended = All-push (λ e. entries_of e.0 h.log ≡ e.1) v.ended (w.app, w.mine) f.ended (g.mine live); alive = λ c. absurd (dead c) };
+        bell = h.bell;
+        each = each_joined (Fits opening h.log h.noted h.rings) s.views id other b z (λ j u e. h.each j u e)
+            record { found = λ c. absurd (off c); heard = λ n is. absurd (cc is); opening = λ c. absurd (off c); seen = (h.log, refl); joined = (h.log, refl); mine = λ c. absurd (off c); served = λ c. absurd (off c); ended = All-nil (λ e. entries_of e.0 h.log ≡ e.1); alive = λ c. absurd (off c) }
+            record { found = f.found; heard = f.heard; opening = f.opening; seen = f.seen; joined = g.seen; mine = f.mine; served = f.served; ended = All-push (λ e. entries_of e.0 h.log ≡ e.1) v.ended (w.app, w.mine) f.ended (g.mine live); alive = λ c. absurd (dead c) };
         differ = differ_set mid id b (differ_set s.views other z h.differ (λ j u not_ended e. spent_differs u))
             (λ j u not_main e. ⊎_elim
             (λ (x : (j ≡ other) × (z ≡ u)). subst (Differ b) x.1 (joined_differs_spent v w main))
@@ -195,5 +207,7 @@ module _ {T F E : Type 0} (fixed : T → F) (history : T → List (ℕ × E)) (o
                   record { live = λ c. absurd (off c); ended = All-nil (λ e. Contains v.apps e.0) }
                   record { live = λ c. absurd (dead c); ended = All-push (λ e. Contains v.apps e.0) v.ended (w.app, w.mine) (r.all id v at).ended ((r.all other w at').live live) };
             });
-        value = value_set fixed history opening s.words h.log s.homes mid id v b in_mid idle idle (value_set fixed history opening s.words h.log s.homes s.views other w z at' idle' off h.value);
+        value = value_set fixed history awaited opening s.words h.log h.noted s.homes mid id v b in_mid idle idle (value_set fixed history awaited opening s.words h.log h.noted s.homes s.views other w z at' idle' off h.value);
+        sleepers = remembered_set h.noted h.rings mid id v b in_mid (λ c. off (sym (ap is_owing main) ∙ c)) (λ c _. absurd (off (sym (ap is_away main) ∙ c)))
+            (remembered_set h.noted h.rings s.views other w z at' (λ c. off (sym (ap is_owing away) ∙ c)) (λ c _. absurd (off c)) h.sleepers);
       }

@@ -1,5 +1,5 @@
 -- What stands of all seats after one of them stepped.
-use Rattle.std.proofs.Common.{◌≡◌, ◌≢◌, ◌⊎◌, ℕ, zero, suc, ◌<◌, List, [], ◌∷◌, ◌++◌, length, set, get_or, true, refl, sym, ap, ◌∙◌, subst, ⊎_elim, inl, inr, arith, All, Contains, Option, length-set}
+use Rattle.std.proofs.Common.{◌≡◌, ◌≢◌, ◌⊎◌, Bool, ℕ, zero, suc, ◌<◌, List, [], ◌∷◌, ◌++◌, length, set, get_or, true, refl, sym, ap, ◌∙◌, subst, ⊎_elim, inl, inr, arith, All, Contains, Option, length-set}
 use mathlib.Core.Option.{some, some-ne-none, some-injective}
 use mathlib.Core.Option as home
 use lib.ListN.{get_elem?}
@@ -99,19 +99,19 @@ module _ {F E : Type 0} where
       let apart : o.0 ≢ id = λ same. idle (subst (λ (u : View F E). is_served u.stage ≡ true) (some-injective o.1 v (sym o.2 ∙ (ap (get_elem? views) same ∙ at))) o.3) in
       (o.0, o.1, set_else views id o.0 w apart ∙ o.2, o.3)
 
-module _ {T F E : Type 0} (fixed : T → F) (history : T → List (ℕ × E)) (opening : F) where
+module _ {T F E : Type 0} (fixed : T → F) (history : T → List (ℕ × E)) (awaited : T → Bool) (opening : F) where
   -- a seat stepped that has no slot, before and after
-  pub value_set : (words : List ℕ) (log : List (ℕ × E)) (homes : List (home.Option (Option T))) (views : List (View F E)) (id : ℕ) (v w : View F E) → get_elem? views id ≡ some v → is_served v.stage ≢ true → is_served w.stage ≢ true
-      → IsHomeOrOut fixed history opening words log homes views → IsHomeOrOut fixed history opening words log homes (set views id w)
-  value_set words log homes views id v w at idle idle' =
+  pub value_set : (words : List ℕ) (log : List (ℕ × E)) (noted : Bool) (homes : List (home.Option (Option T))) (views : List (View F E)) (id : ℕ) (v w : View F E) → get_elem? views id ≡ some v → is_served v.stage ≢ true → is_served w.stage ≢ true
+      → IsHomeOrOut fixed history awaited opening words log noted homes views → IsHomeOrOut fixed history awaited opening words log noted homes (set views id w)
+  value_set words log noted homes views id v w at idle idle' =
       ⊎_elim
-      (λ (h : (get_or words 0 0 ≡ 0) × IsHome fixed history opening log homes views). let o = h.1 in inl (h.0, (o.0, o.1, o.2, o.3, each_set (λ u. is_served u.stage ≢ true) views id w (λ j u other e. o.4 j u e) idle')))
+      (λ (h : (get_or words 0 0 ≡ 0) × IsHome fixed history awaited opening log noted homes views). let o = h.1 in inl (h.0, (o.0, o.1, o.2, o.3, each_set (λ u. is_served u.stage ≢ true) views id w (λ j u other e. o.4 j u e) idle', o.5)))
       (λ (h : (get_or words 0 0 ≢ 0) × IsOutWithOne views). inr (h.0, out_set views id v w at idle h.1))
 
   -- a seat came that has no slot
-  pub value_push : (words : List ℕ) (log : List (ℕ × E)) (homes : List (home.Option (Option T))) (views : List (View F E)) (w : View F E) → is_served w.stage ≢ true
-      → IsHomeOrOut fixed history opening words log homes views → IsHomeOrOut fixed history opening words log homes (views ++ w ∷ [])
-  value_push words log homes views w idle =
+  pub value_push : (words : List ℕ) (log : List (ℕ × E)) (noted : Bool) (homes : List (home.Option (Option T))) (views : List (View F E)) (w : View F E) → is_served w.stage ≢ true
+      → IsHomeOrOut fixed history awaited opening words log noted homes views → IsHomeOrOut fixed history awaited opening words log noted homes (views ++ w ∷ [])
+  value_push words log noted homes views w idle =
       ⊎_elim
-      (λ (h : (get_or words 0 0 ≡ 0) × IsHome fixed history opening log homes views). let o = h.1 in inl (h.0, (o.0, o.1, o.2, o.3, each_push (λ u. is_served u.stage ≢ true) views w o.4 idle)))
+      (λ (h : (get_or words 0 0 ≡ 0) × IsHome fixed history awaited opening log noted homes views). let o = h.1 in inl (h.0, (o.0, o.1, o.2, o.3, each_push (λ u. is_served u.stage ≢ true) views w o.4 idle, o.5)))
       (λ (h : (get_or words 0 0 ≢ 0) × IsOutWithOne views). let o = h.1 in inr (h.0, (o.0, o.1, at_longer views (w ∷ []) o.0 o.1 o.2, o.3)))

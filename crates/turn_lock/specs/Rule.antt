@@ -1,17 +1,18 @@
 -- What is true of a lock between any two steps: of its two words, its slot and what all seats know.
-use Rattle.std.specs.Prelude.{ℕ, ◌≡◌, ◌≢◌, ◌+◌, ◌⊎◌, true, List, [], length, All, Contains, Option, Some, slice_index}
+use Rattle.std.specs.Prelude.{ℕ, ◌≡◌, ◌≢◌, ◌≤◌, ◌+◌, ◌%◌, ◌^◌, ◌⊎◌, Bool, true, List, [], length, All, Contains, Option, Some, slice_index}
 use mathlib.Core.List.{IsPrefix}
 use mathlib.Core.Option.{some}
 use mathlib.Core.Option as home
 use lib.ListN.{get_elem?}
 use Rattle.atomic_table.specs.Table.{State}
 use Rattle.turn_lock.specs.declared.view.View.{View}
-use Rattle.turn_lock.specs.Views.{entries_of, is_live, is_served, is_main, is_there}
+use Rattle.turn_lock.specs.Views.{entries_of, is_live, is_served, is_away, is_owing, is_main, is_there}
 
 module _ {F E : Type 0} where
   -- what the rule says of one seat, in a lock whose value has this fixed part, where this history
-  -- was published last
-  pub record Fits (fixed : F) (log : List (ℕ × E)) (v : View F E) : Type 0 where
+  -- was published last, the value noted sleepers then or didn't, and the bell rang so often
+  pub record Fits (fixed : F) (log : List (ℕ × E)) (noted : Bool) (rings : ℕ) (v : View F E) :
+      Type 0 where
     pub opening : is_there v.stage ≡ true → v.fixed ≡ Some fixed
     pub seen : IsPrefix v.seen log
     pub joined : IsPrefix v.joined log
@@ -19,6 +20,8 @@ module _ {F E : Type 0} where
     pub served : is_served v.stage ≡ true → v.seen ≡ log
     pub ended : All (λ e. entries_of e.0 log ≡ e.1) v.ended
     pub alive : is_live v.stage ≡ true → All (λ e. v.app ≢ e.0) v.ended
+    pub found : is_served v.stage ≡ true → v.noted ≡ noted
+    pub heard : (n : ℕ) → v.heard ≡ Some n → n ≤ rings
 
   -- what it says of two seats: not both have a turn, no application has two seats or is ended while
   -- it has one, and one seat is the main one
@@ -53,6 +56,18 @@ module _ {F E : Type 0} where
   abbrev pub MainGoverns : List (ℕ × E) → List (View F E) → Type 0
   MainGoverns log views = Each (λ v. is_main v.stage ≡ true → Governs log views v) views
 
+  -- a seat has yet to ring
+  abbrev pub IsRingDue : List (View F E) → Type 0
+  IsRingDue views =
+      (i : ℕ) × (v : View F E) × (get_elem? views i ≡ some v) × (is_owing v.stage ≡ true)
+
+  -- No sleeper is forgotten. If a seat left its turn to sleep and the bell hasn't rung since it
+  -- heard it there, the value notes that there are sleepers, or a seat has yet to ring.
+  abbrev pub AreRemembered : Bool → ℕ → List (View F E) → Type 0
+  AreRemembered noted rings views =
+      Each
+      (λ v. is_away v.stage ≡ true → v.heard ≡ Some rings → (noted ≡ true) ⊎ IsRingDue views) views
+
   abbrev pub NoneServed : List (View F E) → Type 0
   NoneServed views = Each (λ v. is_served v.stage ≢ true) views
 
@@ -61,26 +76,31 @@ module _ {F E : Type 0} where
   IsOutWithOne views =
       (i : ℕ) × (v : View F E) × (get_elem? views i ≡ some v) × (is_served v.stage ≡ true)
 
-module _ {T F E : Type 0} (fixed : T → F) (history : T → List (ℕ × E)) (opening : F) where
-  -- the value is at home, with the fixed part of the opening and just the history that was
-  -- published last
-  abbrev pub IsHome : List (ℕ × E) → List (home.Option (Option T)) → List (View F E) → Type 0
-  IsHome log homes views =
+module _ {T F E : Type 0} (fixed : T → F) (history : T → List (ℕ × E)) (awaited : T → Bool)
+    (opening : F) where
+  -- the value is at home, with the fixed part of the opening, just the history that was published
+  -- last, and sleepers noted or not as they were then
+  abbrev pub IsHome : List (ℕ × E) → Bool → List (home.Option (Option T)) → List (View F E) → Type 0
+  IsHome log noted homes views =
       (x : T) × (get_elem? homes 0 ≡ some (some (Some x))) × (history x ≡ log) ×
-      (fixed x ≡ opening) × NoneServed views
+      (fixed x ≡ opening) × NoneServed views × (awaited x ≡ noted)
 
   -- if the turn's word is 0 the value is at home, and otherwise it is out
-  abbrev pub IsHomeOrOut : List ℕ → List (ℕ × E) → List (home.Option (Option T)) → List (View F E) →
-      Type 0
-  IsHomeOrOut words log homes views =
-      ((slice_index words 0 ≡ 0) × IsHome log homes views) ⊎
+  abbrev pub IsHomeOrOut : List ℕ → List (ℕ × E) → Bool → List (home.Option (Option T)) →
+      List (View F E) → Type 0
+  IsHomeOrOut words log noted homes views =
+      ((slice_index words 0 ≡ 0) × IsHome log noted homes views) ⊎
       ((slice_index words 0 ≢ 0) × IsOutWithOne views)
 
   -- the rule
   pub record Kept (s : State (Option T) (View F E)) : Type 0 where
     pub log : List (ℕ × E)
+    pub noted : Bool
+    pub rings : ℕ
     pub words : length s.words ≡ 2
-    pub each : Each (Fits opening log) s.views
+    pub bell : slice_index s.words 1 ≡ rings % 2 ^ 64
+    pub each : Each (Fits opening log noted rings) s.views
     pub differ : AllDiffer s.views
     pub main : MainGoverns log s.views
-    pub value : IsHomeOrOut s.words log s.homes s.views
+    pub value : IsHomeOrOut s.words log noted s.homes s.views
+    pub sleepers : AreRemembered noted rings s.views

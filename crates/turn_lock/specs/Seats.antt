@@ -22,11 +22,12 @@ pub record Known (F E : Type 0) : Type 0 where
   pub ended : List (ℕ × List (ℕ × E))
 
 -- A seat: which lock it is of; what it knows, or nothing while its turn is out; and whether it left
--- its last turn to sleep, and hasn't slept since.
+-- its last turn to sleep, and hasn't slept since: it has to, or it was kept awake.
 pub record SeatView (F E : Type 0) : Type 0 where
   pub lock : TableId
   pub knows : List (Known F E)
   pub rests : Bool
+  pub kept_awake : Bool
 
 -- A turn: which lock it is of, what its seat knows, the value as the turn found it, and as it is
 -- now.
@@ -109,7 +110,8 @@ module _ {F E : Type 0} where
     pub knows : s.knows ≡ view_of s ∷ []
     pub main : (view_of s).main ≡ false
 
-  -- such a seat that may begin a turn: if it left its last one to sleep, it has slept
+  -- such a seat that may begin a turn: if it left its last one to sleep, it has slept or was kept
+  -- awake
   pub record IsReady (s : SeatView F E) (name : TableId) : Type 0 where
     pub lock : s.lock ≡ name
     pub knows : s.knows ≡ view_of s ∷ []

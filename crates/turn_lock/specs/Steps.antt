@@ -1,9 +1,11 @@
 -- What each kind of atomic step tells the seat that makes it.
-use Rattle.std.specs.Prelude.{ℕ, ◌≡◌, ◌≢◌, ◌++◌, ◌⊎◌, List, [], ◌∷◌, All, Contains, Option, Some}
+use Rattle.std.specs.Prelude.{ℕ, ◌≡◌, ◌≢◌, ◌++◌, ◌%◌, ◌^◌, ◌⊎◌, Bool, true, List, [], ◌∷◌, All, Contains, Option, Some}
 use Rattle.atomic_table.specs.Table.{Me}
 use Rattle.atomic_table.specs.declared.shared.Seat as places
+use Rattle.turn_lock.specs.declared.rule.Way.{Way}
+use Rattle.turn_lock.specs.declared.rule.Way.TheVariants.{AsFound, ToSleep, ToRing}
 use Rattle.turn_lock.specs.declared.view.View.{View}
-use Rattle.turn_lock.specs.Views.{entries_of, served_place, passed_place}
+use Rattle.turn_lock.specs.Views.{entries_of, served_place, passed_place, heard_place, rung_place}
 use Rattle.turn_lock.specs.Seats.{KeepsLonger}
 use mathlib.Core.List.{IsPrefix}
 
@@ -13,14 +15,20 @@ pub record Grows {F E : Type 0} (v : View F E) (log : List (ℕ × E)) : Type 0 
   pub is : log ≡ v.seen ++ more
   pub others : (app : ℕ) → app ≢ v.app → entries_of app more ≡ []
 
-module _ {T F E : Type 0} (fixed : T → F) (history : T → List (ℕ × E)) where
+-- a turn may be left in this way, with a value that notes sleepers or doesn't
+abbrev pub MayLeave : {F E : Type 0} → Way → Bool → View F E → Type 0
+MayLeave AsFound awaited v = awaited ≡ v.noted
+MayLeave ToSleep awaited v = awaited ≡ true
+MayLeave ToRing awaited v = Unit {0}
+
+module _ {T F E : Type 0} (fixed : T → F) (history : T → List (ℕ × E)) (awaited : T → Bool) where
   -- the turn has come, and the value is out with this seat: it has the opening's fixed part, its
   -- history extends the one seen, and of the seat's application it has just the seat's own entries
   abbrev pub IsServed : Me (Option T) (View F E) → Me (Option T) (View F E) → Type 0
   IsServed before now =
       (x : T) × (Some (fixed x) ≡ before.0.fixed) × IsPrefix before.0.seen (history x) ×
       (entries_of before.0.app (history x) ≡ before.0.mine)
-      × (now ≡ (served_place before.0 (history x), (0, Some x) ∷ []))
+      × (now ≡ (served_place before.0 (history x) (awaited x), (0, Some x) ∷ []))
 
   -- the turn was free and is the seat's, or it was not and nothing changed
   abbrev pub Seizes : Me (Option T) (View F E) → ℕ → Me (Option T) (View F E) → Type 0
@@ -28,8 +36,18 @@ module _ {T F E : Type 0} (fixed : T → F) (history : T → List (ℕ × E)) wh
 
 module _ {T F E : Type 0} where
   -- the slot went home with this history
-  abbrev pub Passes : List (ℕ × E) → Me (Option T) (View F E) → Me (Option T) (View F E) → Type 0
-  Passes log before now = now ≡ (passed_place before.0 log, [])
+  abbrev pub Passes : List (ℕ × E) → Way → Me (Option T) (View F E) → Me (Option T) (View F E) →
+      Type 0
+  Passes log way before now = now ≡ (passed_place before.0 log way, [])
+
+  -- the seat knows how often the bell had rung when its word was found so
+  abbrev pub Hears : Me (Option T) (View F E) → ℕ → Me (Option T) (View F E) → Type 0
+  Hears before found now =
+      (rings : ℕ) × (found ≡ rings % 2 ^ 64) × (now ≡ (heard_place before.0 rings, before.1))
+
+  -- the seat rang
+  abbrev pub Rings : Me (Option T) (View F E) → Me (Option T) (View F E) → Type 0
+  Rings before now = now ≡ (rung_place before.0, before.1)
 
   -- of what main has seen and what the ended seat had seen one begins the other, and main keeps the
   -- longer, which has no entries of applications that main hasn't split off

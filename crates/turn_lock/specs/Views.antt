@@ -1,8 +1,10 @@
 -- What the table keeps of a seat (its place), and how each kind of step changes it.
-use Rattle.std.specs.Prelude.{ℕ, ◌==◌, Bool, true, false, List, [], ◌∷◌, ◌++◌, filter, Some, None, map, All, Contains}
+use Rattle.std.specs.Prelude.{ℕ, ◌==◌, Bool, true, false, List, [], ◌∷◌, ◌++◌, filter, Option, Some, None, map, All, Contains}
+use Rattle.turn_lock.specs.declared.rule.Way.{Way}
+use Rattle.turn_lock.specs.declared.rule.Way.TheVariants.{AsFound, ToSleep, ToRing}
 use Rattle.turn_lock.specs.declared.view.View.{View}
 use Rattle.turn_lock.specs.declared.view.Stage.{Stage}
-use Rattle.turn_lock.specs.declared.view.Stage.TheVariants.{Main, Away, Has, Spent}
+use Rattle.turn_lock.specs.declared.view.Stage.TheVariants.{Main, Away, Has, Owes, Spent}
 
 -- the entries of one application, in order
 abbrev pub entries_of : {E : Type 0} → ℕ → List (ℕ × E) → List (ℕ × E)
@@ -13,6 +15,7 @@ abbrev pub is_live : Stage → Bool
 is_live Main = false
 is_live Away = true
 is_live Has = true
+is_live Owes = true
 is_live Spent = false
 
 -- whether the value is out with it
@@ -20,13 +23,31 @@ abbrev pub is_served : Stage → Bool
 is_served Main = false
 is_served Away = false
 is_served Has = true
+is_served Owes = false
 is_served Spent = false
+
+-- whether it is an application's between its turns
+abbrev pub is_away : Stage → Bool
+is_away Main = false
+is_away Away = true
+is_away Has = false
+is_away Owes = false
+is_away Spent = false
+
+-- whether it has yet to ring
+abbrev pub is_owing : Stage → Bool
+is_owing Main = false
+is_owing Away = false
+is_owing Has = false
+is_owing Owes = true
+is_owing Spent = false
 
 -- whether it is the main seat
 abbrev pub is_main : Stage → Bool
 is_main Main = true
 is_main Away = false
 is_main Has = false
+is_main Owes = false
 is_main Spent = false
 
 -- whether there still is such a seat
@@ -34,7 +55,20 @@ abbrev pub is_there : Stage → Bool
 is_there Main = true
 is_there Away = true
 is_there Has = true
+is_there Owes = true
 is_there Spent = false
+
+-- where a seat stands that left its turn in this way
+abbrev pub stage_by : Way → Stage
+stage_by AsFound = Away
+stage_by ToSleep = Away
+stage_by ToRing = Owes
+
+-- what it keeps of what it heard in its turn
+abbrev pub heard_by : Way → Option ℕ → Option ℕ
+heard_by AsFound heard = None
+heard_by ToSleep heard = heard
+heard_by ToRing heard = None
 
 module _ {F E : Type 0} where
   -- the main seat of a new lock, whose value has this fixed part and this history
@@ -46,6 +80,8 @@ module _ {F E : Type 0} where
         app = 0;
         mine = [];
         stage = Main;
+        noted = false;
+        heard = None;
         apps = [];
         ended = [];
         joined = [];
@@ -60,6 +96,8 @@ module _ {F E : Type 0} where
         app = app;
         mine = [];
         stage = Away;
+        noted = false;
+        heard = None;
         apps = [];
         ended = [];
         joined = [];
@@ -69,14 +107,28 @@ module _ {F E : Type 0} where
   abbrev pub with_seat : View F E → ℕ → View F E
   with_seat main app = record main { apps = main.apps ++ app ∷ [] }
 
-  -- a seat whose turn has come, and which has seen this history
-  abbrev pub served_place : View F E → List (ℕ × E) → View F E
-  served_place v log = record v { seen = log; stage = Has }
+  -- a seat whose turn has come, which has seen this history, and whether the value notes sleepers
+  abbrev pub served_place : View F E → List (ℕ × E) → Bool → View F E
+  served_place v log noted = record v { seen = log; stage = Has; noted = noted; heard = None }
 
-  -- a seat that left its turn, with this history seen, of which its own entries are its
+  -- a seat that heard the bell, which had rung so often
+  abbrev pub heard_place : View F E → ℕ → View F E
+  heard_place v rings = record v { heard = Some rings }
+
+  -- a seat that left its turn in this way, with this history seen, of which its own entries are its
   -- application's
-  abbrev pub passed_place : View F E → List (ℕ × E) → View F E
-  passed_place v log = record v { seen = log; mine = entries_of v.app log; stage = Away }
+  abbrev pub passed_place : View F E → List (ℕ × E) → Way → View F E
+  passed_place v log way =
+      record v {
+        seen = log;
+        mine = entries_of v.app log;
+        stage = stage_by way;
+        heard = heard_by way v.heard;
+      }
+
+  -- a seat that rang
+  abbrev pub rung_place : View F E → View F E
+  rung_place v = record v { stage = Away }
 
   -- the main seat, which takes in an ended seat's entries, and what that one had seen
   abbrev pub joined_place : View F E → View F E → View F E
@@ -91,6 +143,8 @@ module _ {F E : Type 0} where
         app = 0;
         mine = [];
         stage = Spent;
+        noted = false;
+        heard = None;
         apps = [];
         ended = [];
         joined = [];

@@ -2,12 +2,13 @@
 ghost use Rattle.std.specs.Prelude.{◌≡◌, ℕ, ◌<◌, List, [], ◌∷◌, length, Contains};
 ghost use Rattle.std.specs.Prelude.{IfOk, IfSome, IfNone, Some, None};
 ghost use Rattle.turn_lock.specs.Views.{main_place, seat_place, with_seat, joined_place, AreAllJoined};
-ghost use Rattle.turn_lock.specs.Steps.{Seizes, IsServed, Passes, Meets, Grows};
+ghost use Rattle.turn_lock.specs.Steps.{Seizes, IsServed, MayLeave, Passes, Rings, Meets, Grows};
 ghost use Rattle.turn_lock.specs.Steps.{Stays, Closes};
-ghost use Rattle.turn_lock.specs.declared.view.Stage.TheVariants.{Main, Away, Has};
+ghost use Rattle.turn_lock.specs.Inside.{IsOf};
+ghost use Rattle.turn_lock.specs.declared.view.Stage.TheVariants.{Main, Away, Has, Owes};
 
 use crate::historied::Historied;
-use crate::rule::{Cut, Glue, Meet, NamedApp, Pass, PassedLog, Ring, Seize, Turns};
+use crate::rule::{Cut, Glue, Hear, Meet, NamedApp, Pass, Ring, Seize, TurnEnd, Turns};
 use crate::view::View;
 use atomic_table::{Seat, Table};
 use std::alloc::{AllocError, Global};
@@ -60,7 +61,29 @@ pub(crate) struct PassedTurn<T: Historied> {
     place: Place<T>,
     // What the turn's word was.
     found: u64,
-    ghost passed: { place.me.0.stage ≡ Away },
+}
+
+// The place of a seat that has struck the bell. Only `Board::wake_sleepers` gives the place back;
+// this can't be dropped, so each seat that strikes it then wakes all that sleep at it.
+struct Struck<T: Historied> {
+    // The seat's place, which waking gives back.
+    place: Place<T>,
+}
+
+/// How often the bell had rung, modulo 2^32, when a seat heard it in its turn. Only `Board::hear`
+/// makes one, and nobody counts on from it.
+#[derive(Clone, Copy)]
+pub(crate) struct Rang {
+    // The number.
+    count: u32,
+}
+
+/// That a thread slept at the bell, or found that it had rung. Only `Board::sleep_at_bell` makes
+/// one.
+#[derive(Drop)]
+pub(crate) struct Slept {
+    // What it slept at.
+    _rang: Rang,
 }
 
 impl<T: Historied> Board<T> {
@@ -101,7 +124,7 @@ impl<T: Historied> Board<T> {
         requires table { place.old.table_id ≡ self.now.table.shared.table_id }
         requires away { (place.old.me.0.stage ≡ Away) × (place.old.me.1 ≡ []) }
         ensures place { Stays place.old place.new }
-        ensures seized { Seizes T.fixed T.history place.old.me result place.new.me }
+        ensures seized { Seizes T.fixed T.history T.awaited place.old.me result place.new.me }
     {
         self.table
             .shared
@@ -114,7 +137,7 @@ impl<T: Historied> Board<T> {
         requires table { place.old.table_id ≡ self.now.table.shared.table_id }
         requires away { (place.old.me.0.stage ≡ Away) × (place.old.me.1 ≡ []) }
         ensures place { Stays place.old place.new }
-        ensures seized { Seizes T.fixed T.history place.old.me result place.new.me }
+        ensures seized { Seizes T.fixed T.history T.awaited place.old.me result place.new.me }
     {
         self.table.shared.swap::<Seize>(place, TURN, AWAITED)
     }
@@ -125,7 +148,7 @@ impl<T: Historied> Board<T> {
         requires table { place.old.table_id ≡ self.now.table.shared.table_id }
         requires away { (place.old.me.0.stage ≡ Away) × (place.old.me.1 ≡ []) }
         ensures place { Stays place.old place.new }
-        ensures served { IsServed T.fixed T.history place.old.me place.new.me }
+        ensures served { IsServed T.fixed T.history T.awaited place.old.me place.new.me }
     {
         if self.seize(place) == FREE {
             return 1;
@@ -143,7 +166,7 @@ impl<T: Historied> Board<T> {
         requires away { (place.old.me.0.stage ≡ Away) × (place.old.me.1 ≡ []) }
         ensures place { Stays place.old place.new }
         ensures served { IfSome result
-            (λ _. IsServed T.fixed T.history place.old.me place.new.me) }
+            (λ _. IsServed T.fixed T.history T.awaited place.old.me place.new.me) }
         ensures waits { IfNone result (place.new.me ≡ place.old.me) }
     {
         for looks in 2..LOOKS {
@@ -160,7 +183,7 @@ impl<T: Historied> Board<T> {
         requires table { place.old.table_id ≡ self.now.table.shared.table_id }
         requires away { (place.old.me.0.stage ≡ Away) × (place.old.me.1 ≡ []) }
         ensures place { Stays place.old place.new }
-        ensures served { IsServed T.fixed T.history place.old.me place.new.me }
+        ensures served { IsServed T.fixed T.history T.awaited place.old.me place.new.me }
     {
         let mut looks = LOOKS - 1;
         for _ in rt.forever() {
@@ -201,40 +224,36 @@ impl<T: Historied> Board<T> {
     }
 
     // Frees the turn, with the slot home again, and answers what the word was.
-    fn free<N: PassedLog<T::Event>>(&self, place: &mut Place<T>) -> u64
+    fn free<N: TurnEnd<T::Event>>(&self, place: &mut Place<T>) -> u64
         requires table { place.old.table_id ≡ self.now.table.shared.table_id }
         requires served { place.old.me.0.stage ≡ Has }
         requires full { (x : T) × (place.old.me.1 ≡ (0, Some x) ∷ []) × (T.history x ≡ N.log)
-            × (Some (T.fixed x) ≡ place.old.me.0.fixed) }
+            × (Some (T.fixed x) ≡ place.old.me.0.fixed)
+            × MayLeave N.way (T.awaited x) place.old.me.0 }
         requires grows { Grows place.old.me.0 N.log }
         ensures place { Stays place.old place.new }
-        ensures passed { Passes N.log place.old.me place.new.me }
+        ensures passed { Passes N.log N.way place.old.me place.new.me }
     {
         self.table.shared.swap::<Pass<N>>(place, TURN, FREE)
     }
 
     /// Passes the turn on, with the slot home again and its history published, which has at most
     /// entries of the seat's application more than the place has seen. Nobody is woken yet.
-    pub(crate) fn pass<N: PassedLog<T::Event>>(
-        &self,
-        mut place: Place<T>,
-        told: &Snapshot<T>,
-    ) -> PassedTurn<T>
-        requires log { T.history told.now.value ≡ N.log }
+    pub(crate) fn pass<N: TurnEnd<T::Event>>(&self, mut place: Place<T>) -> PassedTurn<T>
         requires table { place.table_id ≡ self.now.table.shared.table_id }
         requires served { place.me.0.stage ≡ Has }
         requires full { (x : T) × (place.me.1 ≡ (0, Some x) ∷ []) × (T.history x ≡ N.log)
-            × (Some (T.fixed x) ≡ place.me.0.fixed) }
+            × (Some (T.fixed x) ≡ place.me.0.fixed) × MayLeave N.way (T.awaited x) place.me.0 }
         requires grows { Grows place.me.0 N.log }
         ensures place { Stays place result.place }
-        ensures passed { Passes N.log place.me result.place.me }
+        ensures passed { Passes N.log N.way place.me result.place.me }
     {
         let found = self.free::<N>(&mut place);
         PassedTurn { place, found }
     }
 
     /// Wakes a seat that sleeps until the turn is free, if there may be one, and gives back the
-    /// place that passed its turn on.
+    /// place that passed its turn on. No clause sees the waking.
     pub(crate) fn wake(&self, passed: PassedTurn<T>) -> Place<T>
         ensures { result ≡ passed.place }
     {
@@ -245,27 +264,57 @@ impl<T: Historied> Board<T> {
         place
     }
 
-    /// How often the bell rang so far, modulo 2^32. A seat that sleeps next asks in its turn.
-    pub(crate) fn bell(&self, place: &Place<T>) -> u32
-        requires served { place.now.me.0.stage ≡ Has }
+    /// How often the bell rang so far, modulo 2^32, as a seat hears it that sleeps after its turn.
+    pub(crate) fn hear(&self, place: &mut Place<T>) -> Rang
+        requires table { place.old.table_id ≡ self.now.table.shared.table_id }
+        requires served { place.old.me.0.stage ≡ Has }
+        ensures place { Stays place.old place.new }
+        ensures me { place.new.me ≡
+            (record place.old.me.0 { heard = place.new.me.0.heard }, place.old.me.1) }
+        ensures heard { IsOf result place.new.me.0.heard }
     {
-        (self.table.shared.peek(BELL) % HALF) as u32
+        let found = self.table.shared.load::<Hear>(place, BELL);
+        Rang {
+            count: (found % HALF) as u32,
+        }
     }
 
-    /// Sleeps while the bell rang so often, modulo 2^32, until it rings. It may return early.
-    pub(crate) fn sleep_at_bell<R: Wait>(&self, rt: &R, rang: u32) {
-        self.table.shared.park(rt, BELL, rang);
+    /// Sleeps until the bell rings, if it hasn't since it was heard. It may return early. No clause
+    /// sees that the thread parks.
+    pub(crate) fn sleep_at_bell<R: Wait>(&self, rt: &R, rang: Rang) -> Slept {
+        self.table.shared.park(rt, BELL, rang.count);
+        Slept { _rang: rang }
     }
 
     /// Rings the bell, which wakes all seats that sleep at it.
-    pub(crate) fn ring(&self, place: &mut Place<T>)
-        requires table { place.old.table_id ≡ self.now.table.shared.table_id }
-        requires away { place.old.me.0.stage ≡ Away }
-        ensures place { Stays place.old place.new }
-        ensures me { place.new.me ≡ place.old.me }
+    pub(crate) fn ring(&self, place: Place<T>) -> Place<T>
+        requires table { place.table_id ≡ self.now.table.shared.table_id }
+        requires owes { place.me.0.stage ≡ Owes }
+        ensures place { Stays place result }
+        ensures rung { Rings place.me result.me }
     {
-        self.table.shared.fetch_add::<Ring>(place, BELL, 1);
+        self.wake_sleepers(self.strike(place))
+    }
+
+    // Counts one ring more. Nobody is woken yet.
+    fn strike(&self, mut place: Place<T>) -> Struck<T>
+        requires table { place.table_id ≡ self.now.table.shared.table_id }
+        requires owes { place.me.0.stage ≡ Owes }
+        ensures place { Stays place result.place }
+        ensures rung { Rings place.me result.place.me }
+    {
+        self.table.shared.fetch_add::<Ring>(&mut place, BELL, 1);
+        Struck { place }
+    }
+
+    // Wakes all seats that sleep at the bell, and gives back the place that struck it. No clause
+    // sees the waking.
+    fn wake_sleepers(&self, struck: Struck<T>) -> Place<T>
+        ensures { result ≡ struck.place }
+    {
         self.table.shared.wake_all(BELL);
+        let Struck { place } = struck;
+        place
     }
 
     /// Takes an ended place into the main one, with what it made and had seen.

@@ -65,7 +65,7 @@
 //!             1 taken        exchange by 2: the same, and otherwise the seat sleeps while it is 2
 //!             2 and awaited  exchange by 0, with the value back in the slot: the history is
 //!                            published, and one sleeper is woken if the word was 2
-//! bell word   rings so far   read in the turn that is left to sleep; the sleep lasts while the
+//! bell word   rings so far   heard in the turn that is left to sleep; the sleep lasts while the
 //!                            word is unchanged; + 1 once a turn was passed on that wakes, and then
 //!                            all are woken
 //! slot        the value      taken after the turn word, and given back before it
@@ -77,10 +77,17 @@
 //! seat's own entries, in order. `leave` takes a history that is the one found with entries of the
 //! seat's application behind it. `join` keeps the longer of two histories, in which only
 //! applications that were split off have entries. `close` gives a history that has of each
-//! application just its seat's entries, in order, and no others (`specs/Rule.antt`). A seat that
-//! left its turn to sleep begins no turn before it slept or said that it stays awake. A turn that
-//! isn't left to sleep ends by `leave_and_wake` if and only if there are sleepers and the value has
-//! news; that this wakes them is by reading.
+//! application just its seat's entries, in order, and no others (`specs/Rule.antt`).
+//!
+//! A seat that left its turn to sleep begins no turn before it slept or said that it stays awake,
+//! and a turn that it begins awake can't be left to sleep again. It sleeps at the count of rings
+//! that it heard in its turn. A turn that isn't left to sleep ends by `leave_and_wake` if and only
+//! if there are sleepers and the value has news, and this can't end before the bell was struck. So
+//! no sleeper is forgotten: until the bell rings after a seat heard it and left, the value notes
+//! sleepers, or a ring is due (`AreRemembered`).
+//!
+//! No clause sees that `park` sleeps, or that `wake_one` and `wake_all` wake. `board` calls `park`
+//! at the end of a wait, and wakes in one function for each word.
 //!
 //! Tested: two threads get through turns of all lengths around the one at which the other goes to
 //! sleep; a thread that waits for long sleeps; news wakes the sleepers, and they sleep until

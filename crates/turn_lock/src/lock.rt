@@ -1,16 +1,19 @@
 //! The lock: a value that goes from seat to seat.
-ghost use Rattle.std.specs.Prelude.{◌≡◌, ℕ, ◌≤◌, ◌<◌, ◌++◌, [], ◌∷◌, length, true, false, All};
-ghost use Rattle.std.specs.Prelude.{Contains, IfOk, Some};
+ghost use Rattle.std.specs.Prelude.{◌≡◌, ◌||◌, ℕ, ◌≤◌, ◌<◌, ◌++◌, [], ◌∷◌, length, true, false, All};
+ghost use Rattle.std.specs.Prelude.{Contains, IfOk, Some, None};
 ghost use mathlib.Core.List.{IsPrefix};
 ghost use Rattle.turn_lock.specs.Views.{entries_of};
 ghost use Rattle.turn_lock.specs.Seats.{main_view, seat_view, with_app, entered_view, left_view};
 ghost use Rattle.turn_lock.specs.Seats.{view_of, IsOut, IsMain, IsIn, IsReady, AddsOwn};
 ghost use Rattle.turn_lock.specs.Seats.{KeepsLonger, AreAllJoined};
 ghost use Rattle.turn_lock.specs.Inside.{known};
-ghost use Rattle.turn_lock.specs.declared.view.Stage.TheVariants.{Away};
+ghost use Rattle.turn_lock.specs.Views.{passed_place};
+ghost use Rattle.turn_lock.specs.Steps.{MayLeave};
+ghost use Rattle.turn_lock.specs.declared.view.Stage.TheVariants.{Has};
 
 use crate::board::{Board, Place};
 use crate::historied::Historied;
+use crate::rule::TurnEnd;
 use crate::seat::Seat;
 use crate::turn::Turn;
 use fsw_base::AppNo;
@@ -81,6 +84,7 @@ impl<T: Historied> TurnLock<T> {
         ensures main { IsMain main.new self.now.name }
         ensures apps { view_of main.new ≡ with_app (view_of main.old) app }
         ensures seat { IsReady result self.now.name }
+        ensures rested { result.kept_awake ≡ false }
         ensures view { view_of result ≡ seat_view (view_of main.old) app }
     {
         let mut place = main.take_place();
@@ -96,6 +100,7 @@ impl<T: Historied> TurnLock<T> {
     pub fn enter<R: Wait>(&self, rt: &R, seat: &mut Seat<T::Fixed, T::Event>) -> Turn<T>
         requires ready { IsReady seat.old self.now.name }
         ensures out { IsOut seat.new }
+        ensures kept_awake { seat.new.kept_awake ≡ seat.old.kept_awake }
         ensures lock { result.lock ≡ self.now.name }
         ensures found { result.found ≡ result.value }
         ensures opening { Some (T.fixed result.value) ≡ (view_of seat.old).fixed }
@@ -128,25 +133,40 @@ impl<T: Historied> TurnLock<T> {
         requires awaited { T.awaited turn.value ≡ T.awaited turn.found }
         requires no_news { T.awaited turn.value ≡ true → T.news turn.value ≡ false }
         ensures ready { IsReady seat.new self.now.name }
+        ensures rested { seat.new.kept_awake ≡ false }
         ensures view { view_of seat.new ≡ left_view turn.view (T.history turn.value) }
     {
-        *seat = Seat::of(self.give_back(turn));
+        let Turn {
+            place,
+            value,
+            found: _,
+            looks: _,
+        } = turn;
+        *seat = Seat::of(self.give_back::<Brand>(place, value));
     }
 
     /// Ends the turn of a seat that sleeps next, by [`TurnLock::sleep`], until another seat leaves
-    /// its turn by [`TurnLock::leave_and_wake`]. The value notes that there are sleepers.
+    /// its turn by [`TurnLock::leave_and_wake`]. The value notes that there are sleepers. The turn
+    /// was not begun by a seat that was kept awake: who looks in vain twice slept in between.
     pub fn leave_to_sleep(&self, seat: &mut Seat<T::Fixed, T::Event>, turn: Turn<T>)
         requires out { IsOut seat.old }
         requires lock { turn.lock ≡ self.now.name }
         requires opening { Some (T.fixed turn.value) ≡ turn.view.fixed }
         requires own { AddsOwn turn.view (T.history turn.value) }
         requires awaited { T.awaited turn.value ≡ true }
+        requires slept { seat.old.kept_awake ≡ false }
         ensures seat { IsIn seat.new self.now.name }
         ensures rests { seat.new.rests ≡ true }
         ensures view { view_of seat.new ≡ left_view turn.view (T.history turn.value) }
     {
-        let rang = self.board.bell(&turn.place);
-        *seat = Seat::sleeper(self.give_back(turn), rang);
+        let Turn {
+            mut place,
+            value,
+            found: _,
+            looks: _,
+        } = turn;
+        let rang = self.board.hear(&mut place);
+        *seat = Seat::sleeper(self.give_back::<Brand>(place, value), rang);
     }
 
     /// Ends the turn of this seat, and then wakes all seats that left theirs to sleep. At entry the
@@ -160,32 +180,33 @@ impl<T: Historied> TurnLock<T> {
         requires awaited { T.awaited turn.value ≡ false }
         requires news { T.news turn.value ≡ true }
         ensures ready { IsReady seat.new self.now.name }
+        ensures rested { seat.new.kept_awake ≡ false }
         ensures view { view_of seat.new ≡ left_view turn.view (T.history turn.value) }
     {
-        let mut place = self.give_back(turn);
-        self.board.ring(&mut place);
-        *seat = Seat::of(place);
-    }
-
-    // Gives the value back and passes the turn on, which publishes the history, and then wakes a
-    // seat that waits for a turn.
-    fn give_back(&self, turn: Turn<T>) -> Place<T>
-        requires lock { turn.lock ≡ self.now.name }
-        requires opening { Some (T.fixed turn.value) ≡ turn.view.fixed }
-        requires own { AddsOwn turn.view (T.history turn.value) }
-        ensures lock { result.table_id ≡ self.now.name }
-        ensures away { (result.me.0.stage ≡ Away) × (result.me.1 ≡ []) }
-        ensures view { known result.me.0 ≡ left_view turn.view (T.history turn.value) }
-    {
         let Turn {
-            mut place,
+            place,
             value,
             found: _,
             looks: _,
         } = turn;
-        let told = Snapshot::of(&value);
+        let place = self.give_back::<Brand>(place, value);
+        *seat = Seat::of(self.board.ring(place));
+    }
+
+    // Gives the value back and passes the turn on, which publishes the history, and then wakes a
+    // seat that waits for a turn.
+    fn give_back<N: TurnEnd<T::Event>>(&self, mut place: Place<T>, value: T) -> Place<T>
+        requires lock { place.table_id ≡ self.now.name }
+        requires served { (place.me.0.stage ≡ Has) × (place.me.1 ≡ (0, None) ∷ []) }
+        requires log { T.history value ≡ N.log }
+        requires opening { Some (T.fixed value) ≡ place.me.0.fixed }
+        requires own { AddsOwn (known place.me.0) N.log }
+        requires way { MayLeave N.way (T.awaited value) place.me.0 }
+        ensures lock { result.table_id ≡ self.now.name }
+        ensures passed { result.me ≡ (passed_place place.me.0 N.log N.way, []) }
+    {
         self.board.give(&mut place, value);
-        self.board.wake(self.board.pass::<Brand>(place, &told))
+        self.board.wake(self.board.pass::<N>(place))
     }
 
     /// Sleeps if the seat left its last turn to sleep, until another seat leaves its turn by
@@ -194,21 +215,23 @@ impl<T: Historied> TurnLock<T> {
     pub fn sleep<R: Wait>(&self, rt: &R, seat: &mut Seat<T::Fixed, T::Event>)
         requires seat { IsIn seat.old self.now.name }
         ensures ready { IsReady seat.new self.now.name }
+        ensures rested { seat.new.kept_awake ≡ false }
         ensures view { view_of seat.new ≡ view_of seat.old }
     {
-        if let Some(rang) = seat.take_rest() {
-            self.board.sleep_at_bell(rt, rang);
+        if let Some(rang) = seat.rang() {
+            seat.take_rest(self.board.sleep_at_bell(rt, rang));
         }
     }
 
     /// Lets a seat that left its last turn to sleep begin a turn without sleeping: for a call that
-    /// isn't a further look, as an application's last one.
+    /// isn't a further look, as an application's last one. This turn can't be left to sleep.
     pub fn stay_awake(&self, seat: &mut Seat<T::Fixed, T::Event>)
         requires seat { IsIn seat.old self.now.name }
         ensures ready { IsReady seat.new self.now.name }
+        ensures kept_awake { seat.new.kept_awake ≡ (seat.old.rests || seat.old.kept_awake) }
         ensures view { view_of seat.new ≡ view_of seat.old }
     {
-        let _ = seat.take_rest();
+        seat.skip_rest();
     }
 
     /// Takes a seat that ends into the main one, which keeps its entries and the longer of what

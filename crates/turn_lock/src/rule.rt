@@ -1,5 +1,7 @@
 //! The rule that the lock's table keeps, and what each kind of atomic step tells.
 ghost use Rattle.std.specs.Prelude.{ℕ, List, []};
+ghost use Rattle.turn_lock.specs.declared.rule.Way.{Way};
+ghost use Rattle.turn_lock.specs.declared.rule.Way.TheVariants.{AsFound};
 
 use crate::historied::Historied;
 use crate::view::View;
@@ -16,7 +18,7 @@ impl<T: Historied> TableRule<Option<T>, View<T::Fixed, T::Event>, Snapshot<T>> f
     ghost use Rattle.turn_lock.specs.Rule.{Kept};
     ghost use Rattle.turn_lock.specs.Views.{main_place};
 
-    ghost holds = { λ key s. Kept T.fixed T.history (T.fixed key.value) s };
+    ghost holds = { λ key s. Kept T.fixed T.history T.awaited (T.fixed key.value) s };
 
     ghost first = { λ key. main_place (T.fixed key.value) (T.history key.value) };
 }
@@ -27,16 +29,30 @@ pub(crate) struct Seize;
 impl<T: Historied> Play<Option<T>, View<T::Fixed, T::Event>> for Seize {
     ghost use Rattle.turn_lock.specs.Steps.{Seizes};
 
-    ghost then = { λ _ before found now. Seizes T.fixed T.history before found now };
+    ghost then = { λ _ before found now. Seizes T.fixed T.history T.awaited before found now };
 }
 
-/// The history with which a turn is passed on. Each call picks it.
-pub(crate) trait PassedLog<E> {
+/// How a turn is left. No value of it is made.
+pub enum Way {
+    /// The value notes sleepers if and only if it did at entry.
+    AsFound,
+    /// The seat heard the bell in its turn and sleeps next, and the value notes sleepers.
+    ToSleep,
+    /// The seat rings the bell next.
+    ToRing,
+}
+
+/// The history with which a turn is passed on, and how it is left. Each call picks them.
+pub(crate) trait TurnEnd<E> {
     ghost log: { List (ℕ × E) };
+
+    ghost way: { Way };
 }
 
-impl<E> PassedLog<E> for Brand {
+impl<E> TurnEnd<E> for Brand {
     ghost log = { [] };
+
+    ghost way = { AsFound };
 }
 
 /// The turn is free, the slot goes home, and its history is that of the lock.
@@ -44,19 +60,28 @@ pub(crate) struct Pass<N> {
     of: PhantomData<N>,
 }
 
-impl<T: Historied, N: PassedLog<T::Event>> Play<Option<T>, View<T::Fixed, T::Event>> for Pass<N> {
+impl<T: Historied, N: TurnEnd<T::Event>> Play<Option<T>, View<T::Fixed, T::Event>> for Pass<N> {
     ghost use Rattle.turn_lock.specs.Steps.{Passes};
 
-    ghost then = { λ _ before _ now. Passes N.log before now };
+    ghost then = { λ _ before _ now. Passes N.log N.way before now };
 }
 
-/// The bell's word is changed.
+/// The bell's word is read in a turn.
+pub(crate) struct Hear;
+
+impl<T: Historied> Play<Option<T>, View<T::Fixed, T::Event>> for Hear {
+    ghost use Rattle.turn_lock.specs.Steps.{Hears};
+
+    ghost then = { λ _ before found now. Hears before found now };
+}
+
+/// The bell's word is one more, and the seat owes no ring.
 pub(crate) struct Ring;
 
 impl<T: Historied> Play<Option<T>, View<T::Fixed, T::Event>> for Ring {
-    ghost use Rattle.std.specs.Prelude.{◌≡◌};
+    ghost use Rattle.turn_lock.specs.Steps.{Rings};
 
-    ghost then = { λ _ before _ now. now ≡ before };
+    ghost then = { λ _ before _ now. Rings before now };
 }
 
 /// Which application a seat is split off for. Each call picks it.

@@ -1,10 +1,11 @@
 //! The token that a thread takes its turns with.
-ghost use Rattle.std.specs.Prelude.{◌≡◌, true, false, [], ◌∷◌, is_some};
+ghost use Rattle.std.specs.Prelude.{◌≡◌, ◌||◌, true, false, [], ◌∷◌, IfNone};
 ghost use Rattle.atomic_table.specs.Seated.{TableId};
 ghost use Rattle.turn_lock.specs.Seats.{IsOut, view_of};
-ghost use Rattle.turn_lock.specs.Inside.{known, is_idle};
+ghost use Rattle.turn_lock.specs.Inside.{known, is_idle, IsOf};
 ghost use Rattle.turn_lock.specs.declared.view.Stage.TheVariants.{Main, Away};
 
+use crate::board::{Rang, Slept};
 use crate::view::View;
 use atomic_table::{Badge, Seat as Place};
 use std::marker::{Brand, Model};
@@ -14,31 +15,43 @@ use std::mem;
 /// each application's seat is split off from it, and is joined to it in the end.
 ///
 /// Contracts see which lock it is of, what it knows, which is nothing while its turn is out, and
-/// whether it left its last turn to sleep and hasn't slept since. The type names neither the lock's
-/// value nor a lifetime.
+/// whether it left its last turn to sleep and hasn't slept since: it has to, or was kept awake. The
+/// type names neither the lock's value nor a lifetime.
 #[derive(Drop)]
 pub struct Seat<F, E> {
     // The seat of the lock's table, which has no bytes.
     badge: Badge<View<F, E>>,
-    // How often the bell had rung, modulo 2^32, in the turn that the seat left to sleep; None where
-    // it has slept since.
-    rang: Option<u32>,
+    // Whether it has to sleep before its next turn.
+    rest: Rest,
+}
+
+/// Whether a seat has to sleep before its next turn.
+#[derive(Clone, Copy)]
+pub(crate) enum Rest {
+    /// It didn't leave its last turn to sleep, or has slept since.
+    Over,
+    /// It left its last turn to sleep, and had heard the bell so often in it.
+    Due(Rang),
+    /// The same, and it was kept awake.
+    Skipped(Rang),
 }
 
 impl<F, E> Model for Seat<F, E> {
-    ghost use Rattle.std.specs.Prelude.{◌≡◌, true, map, All, is_some};
+    ghost use Rattle.std.specs.Prelude.{◌≡◌, true, map, All};
     ghost use Rattle.turn_lock.specs.Seats.{SeatView};
-    ghost use Rattle.turn_lock.specs.Inside.{known, is_idle};
+    ghost use Rattle.turn_lock.specs.Inside.{known, is_idle, is_due, is_skipped, Recalls};
 
     ghost Value = { SeatView F E };
 
     ghost view = { λ s. record {
       lock = s.badge.table_id;
       knows = map known s.badge.views;
-      rests = is_some s.rang;
+      rests = is_due s.rest;
+      kept_awake = is_skipped s.rest;
     } };
 
-    ghost invariant = { λ s. All (λ v. is_idle v.stage ≡ true) s.badge.views };
+    ghost invariant = { λ s. All (λ v. is_idle v.stage ≡ true) s.badge.views
+        × All (λ v. Recalls s.rest v.heard) s.badge.views };
 }
 
 impl<F, E> Seat<F, E> {
@@ -47,35 +60,65 @@ impl<F, E> Seat<F, E> {
         requires empty { place.me.1 ≡ [] }
         requires idle { is_idle place.me.0.stage ≡ true }
         ensures { result ≡
-            record { lock = place.table_id; knows = known place.me.0 ∷ []; rests = false } }
+            record {
+              lock = place.table_id;
+              knows = known place.me.0 ∷ [];
+              rests = false;
+              kept_awake = false;
+            } }
     {
         Seat {
             badge: place.into_badge(),
-            rang: None,
+            rest: Rest::Over,
         }
     }
 
-    /// The same, of a seat that sleeps next, until the bell rings again: it rang `rang` times so
-    /// far, modulo 2^32.
-    pub(crate) fn sleeper<S>(place: Place<S, View<F, E>>, rang: u32) -> Seat<F, E>
+    /// The same, of a seat that sleeps next, until the bell rings again. It heard it in its turn.
+    pub(crate) fn sleeper<S>(place: Place<S, View<F, E>>, rang: Rang) -> Seat<F, E>
         requires empty { place.me.1 ≡ [] }
         requires idle { is_idle place.me.0.stage ≡ true }
+        requires heard { IsOf rang place.me.0.heard }
         ensures { result ≡
-            record { lock = place.table_id; knows = known place.me.0 ∷ []; rests = true } }
+            record {
+              lock = place.table_id;
+              knows = known place.me.0 ∷ [];
+              rests = true;
+              kept_awake = false;
+            } }
     {
         Seat {
             badge: place.into_badge(),
-            rang: Some(rang),
+            rest: Rest::Due(rang),
         }
     }
 
-    /// How often the bell had rung in the turn that it left to sleep, where it has to sleep; from
-    /// then on it has slept.
-    pub(crate) fn take_rest(&mut self) -> Option<u32>
-        ensures rested { self.new ≡ record self.old { rests = false } }
-        ensures found { is_some result ≡ self.old.rests }
+    /// How often the bell had rung in the turn that it left to sleep; None if it has no sleep due.
+    pub(crate) fn rang(&self) -> Option<Rang>
+        ensures { IfNone result
+            ((self.now.rests ≡ false) × (self.now.kept_awake ≡ false)) }
     {
-        self.rang.take()
+        match self.rest {
+            Rest::Over => None,
+            Rest::Due(rang) => Some(rang),
+            Rest::Skipped(rang) => Some(rang),
+        }
+    }
+
+    /// The seat's thread slept, so it may begin a turn.
+    pub(crate) fn take_rest(&mut self, _slept: Slept)
+        ensures { self.new ≡ record self.old { rests = false; kept_awake = false } }
+    {
+        self.rest = Rest::Over;
+    }
+
+    /// Lets it begin a turn without sleeping, which is noted.
+    pub(crate) fn skip_rest(&mut self)
+        ensures { self.new ≡
+            record self.old { rests = false; kept_awake = self.old.rests || self.old.kept_awake } }
+    {
+        if let Rest::Due(rang) = self.rest {
+            self.rest = Rest::Skipped(rang);
+        }
     }
 
     /// The place of this seat, which is out until it is put back.
@@ -85,6 +128,7 @@ impl<F, E> Seat<F, E> {
         ensures knows { known result.me.0 ≡ view_of self.old }
         ensures empty { result.me.1 ≡ [] }
         ensures out { IsOut self.new }
+        ensures kept_awake { self.new.kept_awake ≡ self.old.kept_awake }
         ensures main { (view_of self.old).main ≡ true → result.me.0.stage ≡ Main }
         ensures away { (view_of self.old).main ≡ false → result.me.0.stage ≡ Away }
     {
@@ -100,7 +144,7 @@ impl<F, E> Seat<F, E> {
         ensures main { (view_of self).main ≡ true → result.me.0.stage ≡ Main }
         ensures away { (view_of self).main ≡ false → result.me.0.stage ≡ Away }
     {
-        let Seat { badge, rang: _ } = self;
+        let Seat { badge, rest: _ } = self;
         badge.into_seat()
     }
 }

@@ -38,7 +38,8 @@ impl<T: Historied> Model for Turn<T> {
       value = t.value;
     } };
 
-    ghost invariant = { λ t. (t.place.me.0.stage ≡ Has) × (t.place.me.1 ≡ (0, None) ∷ []) };
+    ghost invariant = { λ t. (t.place.me.0.stage ≡ Has) × (t.place.me.1 ≡ (0, None) ∷ [])
+        × (t.place.me.0.noted ≡ T.awaited t.found.value) };
 }
 
 impl<T: Historied> Turn<T> {

@@ -13,6 +13,11 @@ pub struct View<F, E> {
     pub mine: LinkedList<(u32, E)>,
     /// Where the seat stands in a turn.
     pub stage: Stage,
+    /// Whether the value noted sleepers at the seat's last entry.
+    pub noted: bool,
+    /// How often the bell had rung when the seat heard it in its turn, or in its last one, which it
+    /// left to sleep; None if it didn't hear it there.
+    pub heard: Option<u64>,
     /// Of the main seat: the applications that were split off.
     pub apps: LinkedList<u32>,
     /// Of the main seat: the applications whose seats were joined, each with its entries.
@@ -29,6 +34,8 @@ pub enum Stage {
     Away,
     /// It has a turn, and the value is out with it.
     Has,
+    /// It left a turn in which it took the sleepers from the value, and has yet to ring.
+    Owes,
     /// It was joined to the main seat.
     Spent,
 }

@@ -1,5 +1,5 @@
 //! Threads that must sleep: until their turn comes, and until there is a pair.
-ghost use Rattle.std.specs.Prelude.{◌≡◌, IfOk};
+ghost use Rattle.std.specs.Prelude.{◌≡◌, false, IfOk};
 ghost use Rattle.turn_lock.specs.Seats.{view_of, IsIn, IsReady};
 
 use super::{PAIRS, Pad, add_one, finish};
@@ -22,6 +22,7 @@ type Opened<'r> = (TurnLock<Pad<'r>>, Seat<usize, u8>, Seat<usize, u8>);
 // A lock over no pairs, and seats for applications 1 and 2.
 fn open<'r>(alloc: Global, bytes: &'r mut [u8]) -> Result<Opened<'r>, AllocError>
     ensures one { IfOk result (λ r. IsReady r.1 r.0.name × ((view_of r.1).app ≡ 1)) }
+    ensures rested { IfOk result (λ r. r.1.kept_awake ≡ false) }
     ensures two { IfOk result (λ r. IsReady r.2 r.0.name × ((view_of r.2).app ≡ 2)) }
 {
     let pad = Pad {
@@ -149,10 +150,10 @@ fn turns_until_an_entry<'r, B: LockName, R: Wait>(
     let mut turns = 0_u32;
     for _ in rt.forever() {
         turns = turns.saturating_add(1);
+        lock.sleep(rt, &mut seat);
         if finds_an_entry(rt, lock, &mut seat) {
             return turns;
         }
-        lock.sleep(rt, &mut seat);
     }
     unreachable!()
 }
@@ -161,6 +162,7 @@ fn turns_until_an_entry<'r, B: LockName, R: Wait>(
 // next.
 fn finds_an_entry<'r, R: Wait>(rt: &R, lock: &TurnLock<Pad<'r>>, seat: &mut Seat<usize, u8>) -> bool
     requires seat { IsReady seat.old lock.now.name }
+    requires slept { seat.old.kept_awake ≡ false }
     ensures seat { IsIn seat.new lock.now.name }
 {
     let mut turn = lock.enter(rt, seat);

@@ -8,5 +8,5 @@ join_seat-requires g c = let table = c.requires.table in let other = c.requires.
   table.1,
   other.1,
   omega (arith, c.args.self.now.two),
-  join_keeps g.T.Historied.fixed g.T.Historied.history (g.T.Historied.fixed c.args.self.now.table.shared.key.value) c.args.main.now.id c.args.other.id c.args.main.now.me.0 c.args.other.me.0 c.requires.main other.0,
+  join_keeps g.T.Historied.fixed g.T.Historied.history g.T.Historied.awaited (g.T.Historied.fixed c.args.self.now.table.shared.key.value) c.args.main.now.id c.args.other.id c.args.main.now.me.0 c.args.other.me.0 c.requires.main other.0,
 )

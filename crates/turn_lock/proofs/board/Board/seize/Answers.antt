@@ -9,5 +9,5 @@ pub compare_exchange-requires : goal.compare_exchange-requires
 compare_exchange-requires g c = let away = c.requires.away in (
   c.requires.table,
   omega (arith, c.args.self.now.two),
-  seize_keeps_as g.T.Historied.fixed g.T.Historied.history (g.T.Historied.fixed c.args.self.now.table.shared.key.value) c.args.self.now.table.shared.table_id.slots c.args.place.now.id c.args.place.now.me (λ n. either (n == 0) 1 n) seized away.1 away.0,
+  seize_keeps_as g.T.Historied.fixed g.T.Historied.history g.T.Historied.awaited (g.T.Historied.fixed c.args.self.now.table.shared.key.value) c.args.self.now.table.shared.table_id.slots c.args.place.now.id c.args.place.now.me (λ n. either (n == 0) 1 n) seized away.1 away.0,
 )

@@ -14,7 +14,7 @@ pub returns-clause-knows : goal.returns-clause-knows
 returns-clause-knows g c = knows_first c.self.inside.badge.views c.into_seat.result.me.0 (ap (λ b. b.views) (sym c.replace.ensures.value) ∙ c.into_seat.ensures.2) ∙ ap view_of c.self.view_is
 
 pub returns-clause-main : goal.returns-clause-main
-returns-clause-main g c = λ main. main_first c.self.inside.badge.views c.into_seat.result.me.0 (ap (λ b. b.views) (sym c.replace.ensures.value) ∙ c.into_seat.ensures.2) c.self.invariant (ap (λ s. (view_of s).main) c.self.view_is ∙ main)
+returns-clause-main g c = λ main. main_first c.self.inside.badge.views c.into_seat.result.me.0 (ap (λ b. b.views) (sym c.replace.ensures.value) ∙ c.into_seat.ensures.2) c.self.invariant.0 (ap (λ s. (view_of s).main) c.self.view_is ∙ main)
 
 pub returns-clause-away : goal.returns-clause-away
-returns-clause-away g c = λ main. away_first c.self.inside.badge.views c.into_seat.result.me.0 (ap (λ b. b.views) (sym c.replace.ensures.value) ∙ c.into_seat.ensures.2) c.self.invariant (ap (λ s. (view_of s).main) c.self.view_is ∙ main)
+returns-clause-away g c = λ main. away_first c.self.inside.badge.views c.into_seat.result.me.0 (ap (λ b. b.views) (sym c.replace.ensures.value) ∙ c.into_seat.ensures.2) c.self.invariant.0 (ap (λ s. (view_of s).main) c.self.view_is ∙ main)
