@@ -14,7 +14,7 @@ use Rattle.sb_calls.specs.Bags.{HasBag}
 use Rattle.sb_calls.specs.Core.{MayCall}
 use Rattle.sb_calls.proofs.OthersBags.{others_behind}
 use Rattle.bus_service.specs.Ports.{PortView, Answers as PortAnswers}
-use Rattle.sb_calls.proofs.OthersCalls.{may_meanwhile}
+use Rattle.bus_service.proofs.OthersCalls.{may_meanwhile}
 use Rattle.script_runs.specs.Written.{written_after}
 use Rattle.app_calls.specs.Callers.{LeavesBuffers, buffers_asked, written_in}
 use Rattle.app_calls.proofs.CoreAnswers.{leaves-same}
