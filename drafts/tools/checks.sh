@@ -5,15 +5,9 @@ model=../shared/reference
 stage=$(<.ci/stage)
 export MODEL=$model/fsw.py
 check() { local name=$1; shift; local t=$(date +%s); if "$@" > /tmp/chk.out 2>&1; then echo "$(date +%T) check: $name: passed ($(( $(date +%s) - t )) s)"; else echo "$(date +%T) check: $name: FAILED ($(( $(date +%s) - t )) s)"; tail -12 /tmp/chk.out; fi; }
-check 'corpus' .ci/corpus
-check 'examples' .ci/examples
-check 'script examples' python3 .ci/script_examples.py docs/SCRIPT.md
-check 'worked rows' python3 "$model/rows.py" --program .ci/with_check --stage "$stage"
-check 'speed' .ci/speed
-cp /tmp/chk.out /work/notes/speed.out
-check 'diff 400' python3 "$model/diff.py" oracle crates/host_run/out/host_run 400 --kind all --stage drop-the-oldest -j 3
-check 'diff 400 v2' python3 "$model/diff.py" oracle crates/host_run/out/host_run 400 --kind all --stage drop-the-oldest --version 2 -j 3
-check 'diff 400 run' python3 "$model/diff.py" oracle crates/host_run/out/host_run 400 --kind all --stage drop-the-oldest --run -j 3
+check 'diff 400' python3 "$model/diff.py" oracle .ci/with_check 400 --kind all --stage table-images -j 4
+check 'diff 400 v2' python3 "$model/diff.py" oracle .ci/with_check 400 --kind all --stage table-images --version 2 -j 4
+check 'diff 400 run' python3 "$model/diff.py" oracle .ci/with_check 400 --kind all --stage table-images --run -j 4
 cp /tmp/chk.out /work/notes/diff.out
 check 'images' .ci/images.py
 check 'waiting' python3 docs/bench/waiting.py --model "$model/fsw.py" --count 200
