@@ -19,7 +19,7 @@ use Rattle.tbl_load.specs.Core.{Core as TableCore, apps_of as table_apps_of}
 use Rattle.script_lines.specs.declared.line.Line.{Line}
 use Rattle.script_lines.specs.declared.line.Line.TheVariants.{Create, Find, Send, SendRaw, Pend, Allocate, TransmitBuffer, TableRegister, TableShare, Stage, Load}
 use Rattle.script_settings.specs.declared.account.Account.{Account}
-use Rattle.script_settings.specs.Accounts.{no_calls, charge_of, waits_of, buffers_of, counted, account_of, budget_of}
+use Rattle.script_settings.specs.Accounts.{no_calls, charge_of, waits_of, buffers_of, with_line, account_of, budget_of}
 use Rattle.app_script.specs.Ranges.{IsInRange}
 use Rattle.script_runs.specs.Rotation.{Running, SoFar, rotated, rotations, starting, enough, before_all, rotation}
 use Rattle.app_script.specs.Script.{Application, ScriptText, app_at}
@@ -114,25 +114,25 @@ charged-table_enough account (Stage handle offset content) = omega arith
 charged-table_enough account (Load handle offset content) = omega arith
 charged-table_enough account line = omega arith
 
-calls-in : (account : Account) (lines : List Line) → (fold counted account lines).calls ≡ account.calls + length lines
+calls-in : (account : Account) (lines : List Line) → (fold with_line account lines).calls ≡ account.calls + length lines
 calls-in account [] = omega arith
-calls-in account (line ∷ lines) = omega (arith, calls-in (counted account line) lines)
+calls-in account (line ∷ lines) = omega (arith, calls-in (with_line account line) lines)
 
-waits-in : (account : Account) (lines : List Line) → (fold counted account lines).waits ≡ account.waits + sum_by waits_of lines
+waits-in : (account : Account) (lines : List Line) → (fold with_line account lines).waits ≡ account.waits + sum_by waits_of lines
 waits-in account [] = omega arith
-waits-in account (line ∷ lines) = omega (arith, waits-in (counted account line) lines, sum_by-cons waits_of line lines)
+waits-in account (line ∷ lines) = omega (arith, waits-in (with_line account line) lines, sum_by-cons waits_of line lines)
 
-bytes-in : (account : Account) (lines : List Line) → account.bytes + bytes_due account.sizes lines ≤ (fold counted account lines).bytes
+bytes-in : (account : Account) (lines : List Line) → account.bytes + bytes_due account.sizes lines ≤ (fold with_line account lines).bytes
 bytes-in account [] = omega arith
-bytes-in account (line ∷ lines) = omega (arith, bytes-in (counted account line) lines, charged-enough account line)
+bytes-in account (line ∷ lines) = omega (arith, bytes-in (with_line account line) lines, charged-enough account line)
 
-table_bytes-in : (account : Account) (lines : List Line) → account.bytes + table_bytes_due lines ≤ (fold counted account lines).bytes
+table_bytes-in : (account : Account) (lines : List Line) → account.bytes + table_bytes_due lines ≤ (fold with_line account lines).bytes
 table_bytes-in account [] = omega arith
-table_bytes-in account (line ∷ lines) = omega (arith, table_bytes-in (counted account line) lines, charged-table_enough account line, sum_by-cons table_line_bytes line lines)
+table_bytes-in account (line ∷ lines) = omega (arith, table_bytes-in (with_line account line) lines, charged-table_enough account line, sum_by-cons table_line_bytes line lines)
 
-buffers-in : (account : Account) (lines : List Line) → (fold counted account lines).buffers ≡ account.buffers + sum_by buffers_of lines
+buffers-in : (account : Account) (lines : List Line) → (fold with_line account lines).buffers ≡ account.buffers + sum_by buffers_of lines
 buffers-in account [] = omega arith
-buffers-in account (line ∷ lines) = omega (arith, buffers-in (counted account line) lines, sum_by-cons buffers_of line lines)
+buffers-in account (line ∷ lines) = omega (arith, buffers-in (with_line account line) lines, sum_by-cons buffers_of line lines)
 
 pub budget-entries : (lines : List Line) → (budget_of lines).entries ≡ entries_due lines
 unfolding budget_of account_of

@@ -11,7 +11,7 @@ use Rattle.bus_words.specs.declared.history.Call.TheVariants as calls
 use Rattle.bus_words.specs.declared.history.Entry.{Entry}
 use Rattle.bus_words.specs.Bus.{State, Standing, Active, Waiting, Ended, Sending, Subscription, standing_of, with_standing, is_empty, others_idle, is_subscribed, route}
 use Rattle.bus_words.specs.Refusals.{Refusal, OfBus, OfPools, OfEvents}
-use Rattle.bus_words.specs.Machine.{step, cause, decided, recorded, reads_after, refused_state, buffer_gone, sent_along, passed_along, packet_in, received}
+use Rattle.bus_words.specs.Machine.{step, cause, decided, recorded, refused_state, buffer_gone, sent_along, passed_along, packet_in, received}
 use Rattle.script_lines.specs.declared.line.Line.{Line}
 use Rattle.script_lines.specs.declared.line.Line.TheVariants.{Create, Delete, SetOpts, GetOpts, Find, PipeName, Subscribe, Unsubscribe, Send, SendRaw, Receive, Pend, Allocate, TransmitBuffer, Release, PoolCreate, PoolGet, PoolPut, PoolFigures, Register, SendEvent, ResetFilter, LogMode, ClearLog, Housekeeping, Figures}
 use Rattle.script_runs.specs.LineCalls.{line_call_of}
@@ -65,7 +65,7 @@ waiting_not_ended pipe h = cc h
 
 -- the bus once a call so answered is told and counted
 abbrev after_it : Limits → List Entry → State → ℕ → Call → BusAnswer × State → State
-after_it limits history s app call made = (recorded (reads_after limits history) limits s app call made).1
+after_it limits history s app call made = (recorded limits s app call made).1
 
 -- what is told and counted is no matter here
 settles-recorded : (limits : Limits) (history : List Entry) (s : State) (app : ℕ) (call : Call) (made : BusAnswer × State) (waits : Option ℕ) → Settles app made.0 made.1 waits →

@@ -10,7 +10,7 @@ use Rattle.app_script.specs.declared.reading.Reading.TheInside as reading
 use Rattle.script_settings.specs.declared.account.Account.{Account}
 use Rattle.script_lines.specs.declared.line.Line.{Line}
 use Rattle.script_lines.specs.declared.line.Line.TheVariants.{Pend, Allocate}
-use Rattle.script_settings.specs.Accounts.{account_of, charge_of, counted, waits_of, buffers_of}
+use Rattle.script_settings.specs.Accounts.{account_of, charge_of, with_line, waits_of, buffers_of}
 use Rattle.app_script.specs.Inside.{Fits, KeepsCounts, progress_in}
 use Rattle.script_settings.specs.Settings.{seq_of}
 use Rattle.app_script.specs.Grammar.{Progress, after_seq, apps_of}
@@ -27,11 +27,11 @@ buffers_few (Allocate buf size) = omega arith
 buffers_few line = omega arith
 
 -- an application with one line more
-pub fits_push : (a b : app.Inside) (line : Line) → Fits a → b.lines.items ≡ a.lines.items ++ line ∷ [] → b.account ≡ counted a.account line → length a.lines.items < 20000 → Fits b
+pub fits_push : (a b : app.Inside) (line : Line) → Fits a → b.lines.items ≡ a.lines.items ++ line ∷ [] → b.account ≡ with_line a.account line → length a.lines.items < 20000 → Fits b
 fits_push a b line fits pushed count few =
     let longer : length b.lines.items ≡ length a.lines.items + 1 = omega (arith, ap length pushed, length-append a.lines.items (line ∷ [])) in
     record {
-      account = count ∙ ap (λ (x : Account). counted x line) fits.account ∙ sym (account_of_push a.lines.items line) ∙ ap account_of (sym pushed);
+      account = count ∙ ap (λ (x : Account). with_line x line) fits.account ∙ sym (account_of_push a.lines.items line) ∙ ap account_of (sym pushed);
       calls = omega (arith, ap (λ (x : Account). x.calls) count, fits.calls, longer);
       waits = omega (arith, ap (λ (x : Account). x.waits) count, fits.waits, longer, waits_few line);
       buffers = omega (arith, ap (λ (x : Account). x.buffers) count, fits.buffers, longer, buffers_few line);
@@ -43,7 +43,7 @@ pub keeps_call : (a b : reading.Inside) (line : Line) (charge : ℕ) → KeepsCo
     → b.calls ≡ a.calls + 1 → a.calls < 20000 → b.charged ≡ a.charged + charge → a.charged + charge ≤ 16777216 → b.starts.items ≡ a.starts.items → b.done.items ≡ a.done.items → KeepsCounts b
 keeps_call a b line charge keeps pushed costs calls few charged within starts done =
     let longer : length b.present.lines ≡ length a.present.lines + 1 = omega (arith, ap length pushed, length-append a.present.lines (line ∷ [])) in
-    let account : account_of b.present.lines ≡ counted (account_of a.present.lines) line = ap account_of pushed ∙ account_of_push a.present.lines line in
+    let account : account_of b.present.lines ≡ with_line (account_of a.present.lines) line = ap account_of pushed ∙ account_of_push a.present.lines line in
     record {
       calls = omega (arith, calls);
       charged = omega (arith, charged);

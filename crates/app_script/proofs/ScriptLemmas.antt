@@ -10,15 +10,15 @@ use Rattle.script_settings.specs.declared.settings.LimitName.{LimitName}
 use Rattle.script_settings.specs.declared.settings.LimitName.TheVariants.{MsgIds, Pipes, Dests, Depth, MsgMax, Pool, AppPool, Tables, Handles, TableMax, TablePool}
 use Rattle.script_settings.specs.Settings.{with_limit}
 use Rattle.script_lines.specs.declared.line.Line.{Line}
-use Rattle.script_settings.specs.Accounts.{account_of, counted, no_calls}
+use Rattle.script_settings.specs.Accounts.{account_of, with_line, no_calls}
 use Rattle.script_words.specs.Counts.{Word}
 use Rattle.app_script.specs.declared.forms.Form.{Form}
 use Rattle.app_script.specs.Forms.{form_of, file_form, form_in}
 
 -- one line more is counted
-pub account_of_push : (lines : List Line) (line : Line) → account_of (lines ++ line ∷ []) ≡ counted (account_of lines) line
+pub account_of_push : (lines : List Line) (line : Line) → account_of (lines ++ line ∷ []) ≡ with_line (account_of lines) line
 unfolding account_of
-account_of_push lines line = fold_push counted no_calls lines line
+account_of_push lines line = fold_push with_line no_calls lines line
 
 or_false : (b : Bool) → (b || false) ≡ b
 or_false true = refl

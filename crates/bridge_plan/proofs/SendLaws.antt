@@ -5,7 +5,7 @@ use Rattle.std.proofs.lemmas.List.{drop_all}
 use Rattle.std.proofs.lemmas.Option.{get_or_from_slice_get, slice_get_within}
 use Rattle.script_lines.specs.declared.line.Line.{Line}
 use Rattle.script_settings.specs.declared.account.Account.{Account}
-use Rattle.script_settings.specs.Accounts.{no_calls, account_of, charge_of, counted}
+use Rattle.script_settings.specs.Accounts.{no_calls, account_of, charge_of, with_line}
 use Rattle.script_words.proofs.ListLemmas.{drop_cut}
 use Rattle.app_script.specs.Script.{Application}
 use Rattle.app_script.specs.ScriptRanges.{all_calls, all_bytes}
@@ -46,21 +46,21 @@ read_at : {X : Type 0} (xs : List X) (i : ℕ) (x : X) → slice_get xs i ≡ So
 read_at xs i x at = sym (get_or_from_slice_get xs i x x at)
 
 -- one line more is counted, and is no heavier than all
-pub account_on : (lines : List Line) (i : ℕ) (line : Line) (account now : Account) → slice_get lines i ≡ Some line → now ≡ counted account line → fold counted account (drop i lines) ≡ account_of lines
-    → fold counted now (drop (i + 1) lines) ≡ account_of lines
+pub account_on : (lines : List Line) (i : ℕ) (line : Line) (account now : Account) → slice_get lines i ≡ Some line → now ≡ with_line account line → fold with_line account (drop i lines) ≡ account_of lines
+    → fold with_line now (drop (i + 1) lines) ≡ account_of lines
 account_on lines i line account now at is left =
-    ap (λ a. fold counted a (drop (i + 1) lines)) is ∙ counted_more lines i line account (read_at lines i line at) (slice_get_within lines i line at) left
+    ap (λ a. fold with_line a (drop (i + 1) lines)) is ∙ counted_more lines i line account (read_at lines i line at) (slice_get_within lines i line at) left
 
-pub charge_within : (lines : List Line) (i : ℕ) (line : Line) (account : Account) → slice_get lines i ≡ Some line → fold counted account (drop i lines) ≡ account_of lines → account.bytes + charge_of account line ≤ (account_of lines).bytes
+pub charge_within : (lines : List Line) (i : ℕ) (line : Line) (account : Account) → slice_get lines i ≡ Some line → fold with_line account (drop i lines) ≡ account_of lines → account.bytes + charge_of account line ≤ (account_of lines).bytes
 charge_within lines i line account at left = counted_within lines i line account (read_at lines i line at) (slice_get_within lines i line at) left
 
-pub line_sent : (lines : List Line) (i : ℕ) (line : Line) (account now : Account) (sends sent total : Sends) → slice_get lines i ≡ Some line → now ≡ counted account line → sent ≡ sent_by account line
+pub line_sent : (lines : List Line) (i : ℕ) (line : Line) (account now : Account) (sends sent total : Sends) → slice_get lines i ≡ Some line → now ≡ with_line account line → sent ≡ sent_by account line
     → together sends (sent_from account (drop i lines)) ≡ total → together (together sends sent) (sent_from now (drop (i + 1) lines)) ≡ total
 line_sent lines i line account now sends sent total at is told so_far =
     let left = is_next lines i line (read_at lines i line at) (slice_get_within lines i line at) in
     ap (λ s. together (together sends s) (sent_from now (drop (i + 1) lines))) told ∙
     ap (λ a. together (together sends (sent_by account line)) (sent_from a (drop (i + 1) lines))) is ∙
-    together_assoc sends (sent_by account line) (sent_from (counted account line) (drop (i + 1) lines)) ∙ sym (ap (λ l. together sends (sent_from account l)) left) ∙ so_far
+    together_assoc sends (sent_by account line) (sent_from (with_line account line) (drop (i + 1) lines)) ∙ sym (ap (λ l. together sends (sent_from account l)) left) ∙ so_far
 
 -- ---- applications
 

@@ -4,7 +4,7 @@ use Rattle.fsw_base.specs.declared.config.Budget.{Budget}
 use Rattle.script_lines.specs.declared.line.Line.{Line}
 use Rattle.script_lines.specs.declared.line.Line.TheVariants.{Send, SendRaw, TransmitBuffer, Housekeeping}
 use Rattle.script_settings.specs.declared.account.Account.{Account}
-use Rattle.script_settings.specs.Accounts.{no_calls, charge_of, counted}
+use Rattle.script_settings.specs.Accounts.{no_calls, charge_of, with_line}
 use Rattle.app_script.specs.Script.{Application}
 use Rattle.bridge_plan.specs.declared.budgets.Sends.{Sends}
 use Rattle.bridge_plan.specs.Plan.{PlanText}
@@ -29,7 +29,7 @@ together a b = record { lines = a.lines + b.lines; bytes = a.bytes + b.bytes }
 abbrev pub sent_from : Account → List Line → Sends
 sent_from account [] = record { lines = 0; bytes = 0 }
 sent_from account (line ∷ lines) =
-    together (sent_by account line) (sent_from (counted account line) lines)
+    together (sent_by account line) (sent_from (with_line account line) lines)
 
 -- what the lines of all applications send
 abbrev pub sends_of : List Application → Sends

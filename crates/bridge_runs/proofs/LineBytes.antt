@@ -18,7 +18,7 @@ use Rattle.bus_words.specs.declared.history.Entry.{Entry}
 use Rattle.script_lines.specs.declared.line.Line.{Line}
 use Rattle.script_lines.specs.declared.line.Line.TheVariants as lines
 use Rattle.script_settings.specs.declared.account.Account.{Account}
-use Rattle.script_settings.specs.Accounts.{charge_of, counted, no_calls, sizes_after}
+use Rattle.script_settings.specs.Accounts.{charge_of, with_line, no_calls, sizes_after}
 use Rattle.script_runs.specs.LineCalls.{line_call_of}
 use Rattle.script_runs.specs.Messages.{fill_byte, filled, sent_message}
 use Rattle.script_runs.specs.Trace.{AfterAnswer, LineEntries, Registers, Trace, call_of, first_registers, registers_after}
@@ -247,9 +247,9 @@ trace_bytes m registers written account [] [] f grows ends = absurd ends
 trace_bytes m registers written account [] (e ∷ []) f grows ends = omega (arith, brings_none e.call e.answer ends)
 trace_bytes m registers written account [] (e ∷ g ∷ es) f grows ends = absurd ends
 trace_bytes m registers written account (line ∷ lines) es f grows trace =
-    line_bytes m registers written account line (sent_from (counted account line) lines).bytes (λ r w rest. Trace r w lines rest) (call_of registers written line)
+    line_bytes m registers written account line (sent_from (with_line account line) lines).bytes (λ r w rest. Trace r w lines rest) (call_of registers written line)
     (line_moves m registers written account line f)
-    (λ k r w rest fits g there. trace_bytes k r w (counted account line) lines rest fits g there) es grows trace
+    (λ k r w rest fits g there. trace_bytes k r w (with_line account line) lines rest fits g there) es grows trace
 
 first_fits : Fits 0 first_registers.buffers no_calls.sizes first_written
 first_fits = record {

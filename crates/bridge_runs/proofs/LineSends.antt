@@ -13,7 +13,7 @@ use Rattle.bus_words.specs.Runs.{callers}
 use Rattle.script_lines.specs.declared.line.Line.{Line}
 use Rattle.script_lines.specs.declared.line.Line.TheVariants as lines
 use Rattle.script_settings.specs.declared.account.Account.{Account}
-use Rattle.script_settings.specs.Accounts.{counted, no_calls}
+use Rattle.script_settings.specs.Accounts.{with_line, no_calls}
 use Rattle.app_script.specs.Script.{Application, app_at}
 use Rattle.script_runs.specs.LineCalls.{line_call_of}
 use Rattle.script_runs.specs.Trace.{AfterAnswer, LineEntries, Registers, Trace, call_of, first_registers, own_entries, registers_after}
@@ -65,15 +65,15 @@ trace_sends registers written account [] [] ends = absurd ends
 trace_sends registers written account [] (e ∷ []) ends = omega (arith, sends-cons e [], ap one_send ends)
 trace_sends registers written account [] (e ∷ f ∷ es) ends = absurd ends
 trace_sends registers written account (line ∷ lines) es trace =
-    let rest = (sent_from (counted account line) lines).lines in
+    let rest = (sent_from (with_line account line) lines).lines in
     omega (
       arith,
       line_sends registers written account line,
       line_entries (call_of registers written line)
           (λ call answer rest. Trace (registers_after registers line answer) (written_after written call answer) lines rest)
           (λ rest. Trace registers (written_by written registers.buffers line) lines rest) rest
-          (λ call answer es there. trace_sends (registers_after registers line answer) (written_after written call answer) (counted account line) lines es there)
-          (λ es there. trace_sends registers (written_by written registers.buffers line) (counted account line) lines es there) es trace,
+          (λ call answer es there. trace_sends (registers_after registers line answer) (written_after written call answer) (with_line account line) lines es there)
+          (λ es there. trace_sends registers (written_by written registers.buffers line) (with_line account line) lines es there) es trace,
     )
 
 -- ---- the bridge

@@ -9,7 +9,7 @@ ghost use Rattle.buf_desc.specs.Block.{Sealed as SealedBlock};
 ghost use Rattle.buf_desc.specs.Desk.{Buffers, Takes, IsOf, uncut, placed, sealed, freed, resealed, after_drop, after_use, after_settle};
 
 use crate::block::{Block, with_its_count};
-use crate::sent::Sent;
+use crate::sent::SentBlock;
 use crate::slot::{
     Slot, Space, asked_at, count_use, count_uses, discount_use, let_use_go, lift_free, number_at,
     place_sealed, put_free, put_sealed, reopen, return_view, take_free, uses_at, view_of,
@@ -87,7 +87,7 @@ fn sealed_copy<'r>(
     number: u64,
     bytes: &[u8],
     count: Option<u16>,
-) -> Sent<'r>
+) -> SentBlock<'r>
     requires header { 6 ≤ length bytes.now }
     requires most { length bytes.now < 4294967296 }
     requires count { IfSome count (λ n. n < 16384) }
@@ -106,7 +106,7 @@ fn sealed_copy<'r>(
     let len = bytes.len() as u32;
     let copy = Block::new(desc, number, space, len).with_copy_of(bytes);
     let message = with_its_count(copy, count);
-    Sent::seal(number, len, message.into_space(), len as usize)
+    SentBlock::seal(number, len, message.into_space(), len as usize)
 }
 
 impl<'r> Desk<'r> {
@@ -242,7 +242,7 @@ impl<'r> Desk<'r> {
         let desc = block.desc();
         let number = block.number();
         let asked = block.len();
-        let sent = Sent::seal(number, asked, block.into_space(), len as usize);
+        let sent = SentBlock::seal(number, asked, block.into_space(), len as usize);
         put_sealed(&mut self.slots, desc, sent);
         desc
     }

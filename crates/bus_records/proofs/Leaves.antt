@@ -45,9 +45,9 @@ whole_with w records = record w { bus = with_recordings w.bus records }
 abbrev pub with_events : Recordings → Desk → Recordings
 with_events records desk = record records { events = desk }
 
--- a call that saw this beside this bus, is answered so, and leaves that bus but for these, leaves these
-abbrev pub left : Limits → Reads → State → ℕ → Call → BusAnswer → State → Recordings
-left limits reads s app call answer t = recordings_of ((recorded reads limits s app call (answer, t)).1)
+-- a call that found this bus, is answered so, and leaves that bus but for these, leaves these
+abbrev pub left : Limits → State → ℕ → Call → BusAnswer → State → Recordings
+left limits s app call answer t = recordings_of ((recorded limits s app call (answer, t)).1)
 
 -- The step. --
 
@@ -55,14 +55,14 @@ left limits reads s app call answer t = recordings_of ((recorded reads limits s 
 pub acts_with : (limits : Limits) (w : Whole) (app : ℕ) (call : Call) (why : Option Refusal) (answer : BusAnswer) (v : Whole) (records : Recordings) →
     cause limits w.bus app call ≡ why →
     completed limits w call (decided_with (reads_in w) limits w.bus app call why) ≡ (answer, v) →
-    left limits (reads_in w) w.bus app call answer v.bus ≡ records →
+    left limits w.bus app call answer v.bus ≡ records →
     act limits w app call ≡ (answer, whole_with v records)
 acts_with limits w app call why answer v records cause made is =
-    ap (λ o. completed limits w call (recorded (reads_in w) limits w.bus app call (decided_with (reads_in w) limits w.bus app call o))) cause
-    ∙ ap (λ (x : BusAnswer × Whole). (x.0, whole_with x.1 (left limits (reads_in w) w.bus app call x.0 x.1.bus))) made
+    ap (λ o. completed limits w call (recorded limits w.bus app call (decided_with (reads_in w) limits w.bus app call o))) cause
+    ∙ ap (λ (x : BusAnswer × Whole). (x.0, whole_with x.1 (left limits w.bus app call x.0 x.1.bus))) made
     ∙ ap (λ r. (answer, whole_with v r)) is
 
-module _ (limits : Limits) (reads : Reads) (s : State) (app : ℕ) where
+module _ (limits : Limits) (s : State) (app : ℕ) where
   abbrev records : Recordings
   records = recordings_of s
 
@@ -72,8 +72,8 @@ module _ (limits : Limits) (reads : Reads) (s : State) (app : ℕ) where
 
   -- what is left, where the bus tells this of the call, and its refusal raises these counters
   left_by : (call : Call) (answer : BusAnswer) (t : State) (events : List ServiceEvent) (names : List CounterName) →
-      call_events limits reads s app call answer ≡ events → refusal_counter call answer ≡ names →
-      left limits reads s app call answer t
+      call_events s app call answer ≡ events → refusal_counter call answer ≡ names →
+      left limits s app call answer t
       ≡ record {
         events = desk_by s.events app call events;
         statistics = record {
@@ -106,7 +106,7 @@ module _ (limits : Limits) (reads : Reads) (s : State) (app : ℕ) where
 
   -- Refused calls. --
 
-  refused_events : (call : Call) (status : SbStatus) → call_events limits reads s app call (Sb status) ≡ []
+  refused_events : (call : Call) (status : SbStatus) → call_events s app call (Sb status) ≡ []
   unfolding call_events
   refused_events (Create depth name) status = refl
   refused_events (Delete pipe) status = refl
@@ -139,7 +139,7 @@ module _ (limits : Limits) (reads : Reads) (s : State) (app : ℕ) where
   -- a refused call counts its refusal
   pub refused_left : (call : Call) (status : SbStatus) (t : State) (which : CounterName) → leaves_desk call ≡ true →
       refusal_counter call (Sb status) ≡ which ∷ [] → IsCovered t →
-      left limits reads s app call (Sb status) t ≡ counter_ticked records which
+      left limits s app call (Sb status) t ≡ counter_ticked records which
   refused_left call status t which leaves counter covered =
       left_by call (Sb status) t [] (which ∷ []) (refused_events call status) counter
       ∙ ap (λ (desk : Desk). peaks_raised (with_events (counter_ticked records which) desk) (in_use limits t)) (quiet_desk s.events app call leaves)
@@ -149,21 +149,21 @@ module _ (limits : Limits) (reads : Reads) (s : State) (app : ℕ) where
 
   -- a call of which the bus tells nothing, and that counts no refusal, raises the peaks
   pub quiet_left : (call : Call) (answer : BusAnswer) (t : State) → is_quiet call ≡ true → leaves_desk call ≡ true → refusal_counter call answer ≡ [] →
-      left limits reads s app call answer t ≡ peaks_raised records (in_use limits t)
+      left limits s app call answer t ≡ peaks_raised records (in_use limits t)
   quiet_left call answer t quiet leaves none =
-      left_by call answer t [] [] (quiet_events limits reads s app call answer quiet) none
+      left_by call answer t [] [] (quiet_events s app call answer quiet) none
       ∙ ap (λ (desk : Desk). peaks_raised (with_events records desk) (in_use limits t)) (quiet_desk s.events app call leaves)
 
   -- or leaves all as it is
   pub still_left : (call : Call) (answer : BusAnswer) (t : State) → is_quiet call ≡ true → leaves_desk call ≡ true → refusal_counter call answer ≡ [] →
-      IsCovered t → left limits reads s app call answer t ≡ records
+      IsCovered t → left limits s app call answer t ≡ records
   still_left call answer t quiet leaves none covered = quiet_left call answer t quiet leaves none ∙ peaks_stay records t refl covered
 
   -- Subscriptions. --
 
   -- of a new subscription nothing is told
   pub subscribed_left : (id pipe limit : ℕ) (scope : Scope) (t : State) → is_subscribed s.subscriptions id pipe ≡ false →
-      left limits reads s app (Subscribe id pipe limit scope) Done t ≡ peaks_raised records (in_use limits t)
+      left limits s app (Subscribe id pipe limit scope) Done t ≡ peaks_raised records (in_use limits t)
   unfolding call_events desk_by
   subscribed_left id pipe limit scope t fresh =
       left_by (Subscribe id pipe limit scope) Done t [] []
@@ -171,7 +171,7 @@ module _ (limits : Limits) (reads : Reads) (s : State) (app : ℕ) where
 
   -- of one that stood already it is told that it did
   pub duplicate_left : (id pipe limit : ℕ) (scope : Scope) (t : State) → is_subscribed s.subscriptions id pipe ≡ true → IsCovered t →
-      left limits reads s app (Subscribe id pipe limit scope) Done t ≡ told_event records (DuplicateSubscription id pipe)
+      left limits s app (Subscribe id pipe limit scope) Done t ≡ told_event records (DuplicateSubscription id pipe)
   unfolding call_events desk_by
   duplicate_left id pipe limit scope t live covered =
       left_by (Subscribe id pipe limit scope) Done t (DuplicateSubscription id pipe ∷ []) []
@@ -180,7 +180,7 @@ module _ (limits : Limits) (reads : Reads) (s : State) (app : ℕ) where
 
   -- of the end of a subscription nothing is told
   pub unsubscribed_left : (id pipe : ℕ) (t : State) → is_subscribed s.subscriptions id pipe ≡ true →
-      left limits reads s app (Unsubscribe id pipe) Done t ≡ peaks_raised records (in_use limits t)
+      left limits s app (Unsubscribe id pipe) Done t ≡ peaks_raised records (in_use limits t)
   unfolding call_events desk_by
   unsubscribed_left id pipe t live =
       left_by (Unsubscribe id pipe) Done t [] []
@@ -188,7 +188,7 @@ module _ (limits : Limits) (reads : Reads) (s : State) (app : ℕ) where
 
   -- where there was none, it is told
   pub not_subscribed_left : (id pipe : ℕ) (t : State) → is_subscribed s.subscriptions id pipe ≡ false →
-      left limits reads s app (Unsubscribe id pipe) Done t ≡ peaks_raised (told_event records (NotSubscribed id pipe)) (in_use limits t)
+      left limits s app (Unsubscribe id pipe) Done t ≡ peaks_raised (told_event records (NotSubscribed id pipe)) (in_use limits t)
   unfolding call_events desk_by
   not_subscribed_left id pipe t none =
       left_by (Unsubscribe id pipe) Done t (NotSubscribed id pipe ∷ []) []
@@ -198,21 +198,21 @@ module _ (limits : Limits) (reads : Reads) (s : State) (app : ℕ) where
 
   -- of a send to nobody it is told that nobody subscribes to its id
   pub unheard_left : (bytes : List ℕ) (inc : Bool) (number reached : ℕ) (t : State) → route s.subscriptions (message_id bytes) ≡ [] → IsCovered t →
-      left limits reads s app (Transmit bytes inc) (Sent number reached) t ≡ told_event records (NoSubscribers (message_id bytes))
+      left limits s app (Transmit bytes inc) (Sent number reached) t ≡ told_event records (NoSubscribers (message_id bytes))
   unfolding call_events desk_by
   unheard_left bytes inc number reached t nobody covered =
       let event = NoSubscribers (message_id bytes) in
       left_by (Transmit bytes inc) (Sent number reached) t (event ∷ []) []
-      (send_events-nobody (message_id bytes) (sending_from reads s app bytes inc) (route s.subscriptions (message_id bytes)) s.pipes nobody) refl
+      (send_events-nobody (message_id bytes) app (route s.subscriptions (message_id bytes)) s.pipes nobody) refl
       ∙ peaks_stay (told_event records event) t refl covered
 
   -- of every other send the pipes are told that miss it
-  pub sent_left : (bytes : List ℕ) (inc : Bool) (number reached : ℕ) (t : State) (first : Subscription) (more : List Subscription) →
+  pub sent_left : (reads : Reads) (bytes : List ℕ) (inc : Bool) (number reached : ℕ) (t : State) (first : Subscription) (more : List Subscription) →
       route s.subscriptions (message_id bytes) ≡ first ∷ more →
-      left limits reads s app (Transmit bytes inc) (Sent number reached) t
+      left limits s app (Transmit bytes inc) (Sent number reached) t
       ≡ peaks_raised (told_all records (miss_events (message_id bytes) app (missed (sending_from reads s app bytes inc) (route s.subscriptions (message_id bytes)) s.pipes))) (in_use limits t)
   unfolding call_events desk_by
-  sent_left bytes inc number reached t first more some =
+  sent_left reads bytes inc number reached t first more some =
       let sending = sending_from reads s app bytes inc in
       let subs = route s.subscriptions (message_id bytes) in
       let events = miss_events (message_id bytes) app (missed sending subs s.pipes) in
@@ -222,18 +222,18 @@ module _ (limits : Limits) (reads : Reads) (s : State) (app : ℕ) where
 
   -- the same of a buffer
   pub unheard_buffer_left : (buf : ℕ) (bytes : List ℕ) (inc : Bool) (number reached : ℕ) (t : State) → route s.subscriptions (message_id bytes) ≡ [] →
-      left limits reads s app (TransmitBuffer buf bytes inc) (Sent number reached) t ≡ peaks_raised (told_event records (NoSubscribers (message_id bytes))) (in_use limits t)
+      left limits s app (TransmitBuffer buf bytes inc) (Sent number reached) t ≡ peaks_raised (told_event records (NoSubscribers (message_id bytes))) (in_use limits t)
   unfolding call_events desk_by
   unheard_buffer_left buf bytes inc number reached t nobody =
       left_by (TransmitBuffer buf bytes inc) (Sent number reached) t (NoSubscribers (message_id bytes) ∷ []) []
-      (send_events-nobody (message_id bytes) (sending_in reads s app buf bytes inc) (route s.subscriptions (message_id bytes)) s.pipes nobody) refl
+      (send_events-nobody (message_id bytes) app (route s.subscriptions (message_id bytes)) s.pipes nobody) refl
 
-  pub sent_buffer_left : (buf : ℕ) (bytes : List ℕ) (inc : Bool) (number reached : ℕ) (t : State) (first : Subscription) (more : List Subscription) →
+  pub sent_buffer_left : (reads : Reads) (buf : ℕ) (bytes : List ℕ) (inc : Bool) (number reached : ℕ) (t : State) (first : Subscription) (more : List Subscription) →
       route s.subscriptions (message_id bytes) ≡ first ∷ more →
-      left limits reads s app (TransmitBuffer buf bytes inc) (Sent number reached) t
+      left limits s app (TransmitBuffer buf bytes inc) (Sent number reached) t
       ≡ peaks_raised (told_all records (miss_events (message_id bytes) app (missed (sending_in reads s app buf bytes inc) (route s.subscriptions (message_id bytes)) s.pipes))) (in_use limits t)
   unfolding call_events desk_by
-  sent_buffer_left buf bytes inc number reached t first more some =
+  sent_buffer_left reads buf bytes inc number reached t first more some =
       let sending = sending_in reads s app buf bytes inc in
       let subs = route s.subscriptions (message_id bytes) in
       let events = miss_events (message_id bytes) app (missed sending subs s.pipes) in
@@ -244,37 +244,37 @@ module _ (limits : Limits) (reads : Reads) (s : State) (app : ℕ) where
   -- Event services, refused or not. --
 
   pub registered_left : (filters : List (ℕ × ℕ)) (answer : BusAnswer) (t : State) → IsCovered t →
-      left limits reads s app (Register filters) answer t ≡ with_events records (registered s.events app filters)
+      left limits s app (Register filters) answer t ≡ with_events records (registered s.events app filters)
   unfolding call_events desk_by
   registered_left filters answer t covered =
       left_by (Register filters) answer t [] [] refl refl ∙ peaks_stay (with_events records (registered s.events app filters)) t refl covered
 
   pub event_sent_left : (id : ℕ) (kind : EventKind) (text : List ℕ) (answer : BusAnswer) (t : State) → IsCovered t →
-      left limits reads s app (SendEvent id kind text) answer t ≡ with_events records (sent s.events app id kind text)
+      left limits s app (SendEvent id kind text) answer t ≡ with_events records (sent s.events app id kind text)
   unfolding call_events desk_by
   event_sent_left id kind text answer t covered =
       left_by (SendEvent id kind text) answer t [] [] refl refl ∙ peaks_stay (with_events records (sent s.events app id kind text)) t refl covered
 
   pub filter_reset_left : (id : ℕ) (answer : BusAnswer) (t : State) → IsCovered t →
-      left limits reads s app (ResetFilter id) answer t ≡ with_events records (reset s.events app id)
+      left limits s app (ResetFilter id) answer t ≡ with_events records (reset s.events app id)
   unfolding call_events desk_by
   filter_reset_left id answer t covered =
       left_by (ResetFilter id) answer t [] [] refl refl ∙ peaks_stay (with_events records (reset s.events app id)) t refl covered
 
   pub mode_set_left : (mode : ℕ) (answer : BusAnswer) (t : State) → IsCovered t →
-      left limits reads s app (LogMode mode) answer t ≡ with_events records (with_mode s.events mode)
+      left limits s app (LogMode mode) answer t ≡ with_events records (with_mode s.events mode)
   unfolding call_events desk_by
   mode_set_left mode answer t covered =
       left_by (LogMode mode) answer t [] [] refl refl ∙ peaks_stay (with_events records (with_mode s.events mode)) t refl covered
 
   pub log_cleared_left : (answer : BusAnswer) (t : State) → IsCovered t →
-      left limits reads s app ClearLog answer t ≡ with_events records (cleared s.events)
+      left limits s app ClearLog answer t ≡ with_events records (cleared s.events)
   unfolding call_events desk_by
   log_cleared_left answer t covered =
       left_by ClearLog answer t [] [] refl refl ∙ peaks_stay (with_events records (cleared s.events)) t refl covered
 
   -- the last call ends the registration
   pub ended_left : (answer : BusAnswer) (t : State) →
-      left limits reads s app End answer t ≡ peaks_raised (with_events records (unregistered s.events app)) (in_use limits t)
+      left limits s app End answer t ≡ peaks_raised (with_events records (unregistered s.events app)) (in_use limits t)
   unfolding call_events desk_by
   ended_left answer t = left_by End answer t [] [] refl refl

@@ -8,6 +8,7 @@ use Rattle.bus_events.specs.Events.{served_event, served_all}
 use Rattle.bus_words.specs.Bus.{Pipe, Subscription, Sending, missed}
 use Rattle.bus_words.specs.Counters.{event_counter}
 use Rattle.bus_words.specs.Events.{miss_events, send_events}
+use Rattle.bus_words.proofs.MissedItems.{missed-any}
 use Rattle.bus_records.specs.Records.{Recordings, told_event, told_all}
 
 -- Telling. --
@@ -31,11 +32,11 @@ told_all-is records (event ∷ events) =
 
 -- what is told of a send that goes along subscriptions
 pub send_events-misses : (id : ℕ) (sending : Sending) (subs : List Subscription) (pipes : List Pipe) (first : Subscription) (more : List Subscription) → subs ≡ first ∷ more →
-    send_events id sending subs pipes ≡ miss_events id sending.sender (missed sending subs pipes)
+    send_events id sending.sender subs pipes ≡ miss_events id sending.sender (missed sending subs pipes)
 send_events-misses id sending [] pipes first more is = absurd (cc (is))
-send_events-misses id sending (sub ∷ subs) pipes first more is = refl
+send_events-misses id sending (sub ∷ subs) pipes first more is = ap (miss_events id sending.sender) (sym (missed-any sending (sub ∷ subs) pipes))
 
 -- and of one that goes nowhere
-pub send_events-nobody : (id : ℕ) (sending : Sending) (subs : List Subscription) (pipes : List Pipe) → subs ≡ [] →
-    send_events id sending subs pipes ≡ send_events id sending [] pipes
-send_events-nobody id sending subs pipes is = ap (λ (l : List Subscription). send_events id sending l pipes) is
+pub send_events-nobody : (id sender : ℕ) (subs : List Subscription) (pipes : List Pipe) → subs ≡ [] →
+    send_events id sender subs pipes ≡ send_events id sender [] pipes
+send_events-nobody id sender subs pipes is = ap (λ (l : List Subscription). send_events id sender l pipes) is

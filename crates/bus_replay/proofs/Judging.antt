@@ -4,7 +4,7 @@ use Rattle.bus_words.specs.declared.history.Entry.{Entry}
 use Rattle.run_report.specs.BusText.{entries_text, entry_text}
 use Rattle.app_script.specs.Script.{ScriptText}
 use Rattle.app_script.specs.ScriptRanges.{IsScript}
-use Rattle.run_check.specs.declared.verdict.Verdict.TheVariants.{No}
+use Rattle.run_check.specs.declared.judgement.Judgement.TheVariants.{No}
 use Rattle.run_check.specs.Checks.{IsAnswer}
 use Rattle.run_check.specs.Fronts.{line_ends, wrong_line}
 use Rattle.run_check.specs.Judged.{NobodysEntry, WrongEntry}

@@ -3,7 +3,7 @@ use Rattle.std.specs.Prelude.{◌≡◌, ℕ, List, ◌++◌}
 use Rattle.bus_words.specs.declared.history.Entry.{Entry}
 use Rattle.app_script.specs.Script.{ScriptText}
 use Rattle.run_report.specs.BusText.{entries_text}
-use Rattle.run_check.specs.declared.verdict.Verdict.TheVariants.{No}
+use Rattle.run_check.specs.declared.judgement.Judgement.TheVariants.{No}
 use Rattle.run_check.specs.Begun.{IsBegun, IsWhole}
 use Rattle.run_check.specs.Checks.{IsAnswer}
 use Rattle.run_check.specs.Fronts.{line_ends}

@@ -4,7 +4,7 @@ use Rattle.std.proofs.lemmas.List.{length-map}
 use Rattle.fsw_base.specs.PoolAccounts.{Account}
 use Rattle.lend_block.specs.Loan.{LentBytes}
 use Rattle.bucket_list.specs.Lists.{times_in}
-use Rattle.zero_copy.specs.Held.{Held, held_by, without}
+use Rattle.zero_copy.specs.Held.{HeldDescs, held_by, without}
 use Rattle.zero_copy.proofs.Links.{first_in, length_without}
 use Rattle.zero_copy.proofs.Changes.{without_head}
 use Rattle.es_pool.specs.Pool.{is_out, size_at}
@@ -48,7 +48,7 @@ used_apart slots after d unsealed others used e is =
     let same = others e apart in
     subst (λ s. 1 ≤ (sealed_in s).uses) (sym same) (used e (sym (ap is_sealed same) ∙ is))
 
-module _ (a : Inside) (old : Store) (app buf d : ℕ) (next : Held) (viewed : store_of a ≡ old) (keeps : Keeps a)
+module _ (a : Inside) (old : Store) (app buf d : ℕ) (next : HeldDescs) (viewed : store_of a ≡ old) (keeps : Keeps a)
     (one : 1 ≤ app) (mine : 0 < times_in (list_of a.lists.lists app) d) (numbered : number_in (slot_at a.desk.slots d) ≡ buf)
     (went : next ≡ record a.lists { lists = set a.lists.lists (app - 1) (without d (held_by a.lists app)) })
     (live_out : (e : ℕ) → is_live (slot_at a.desk.slots e) ≡ is_out a.desk.pool e) where
@@ -102,7 +102,7 @@ module _ (a : Inside) (old : Store) (app buf d : ℕ) (next : Held) (viewed : st
   after = record a { desk = final; lists = next }
 
   after_is : after ≡ record a { desk = final; lists = record a.lists { lists = lists' } }
-  after_is = ap (λ (l : Held). let v : Inside = record a { desk = final; lists = l } in v) went
+  after_is = ap (λ (l : HeldDescs). let v : Inside = record a { desk = final; lists = l } in v) went
 
   pub freed_keeps : Keeps after
   freed_keeps = subst Keeps (sym after_is) (record {
@@ -193,7 +193,7 @@ module _ (a : Inside) (old : Store) (app buf d : ℕ) (next : Held) (viewed : st
       omega (arith, before, now, less)
 
 -- all of it at once, for the desk that the block was given back to
-pub record IsFreed (a : Inside) (old : Store) (app buf : ℕ) (final : Buffers) (next : Held) : Type 0 where
+pub record IsFreed (a : Inside) (old : Store) (app buf : ℕ) (final : Buffers) (next : HeldDescs) : Type 0 where
   pub keeps : Keeps (record a { desk = final; lists = next })
   pub store : ((e : ℕ) → is_live (slot_at final.slots e) ≡ is_out final.pool e) →
       store_of (record a { desk = final; lists = next }) ≡ record old {
@@ -209,7 +209,7 @@ pub record IsFreed (a : Inside) (old : Store) (app buf : ℕ) (final : Buffers) 
       HoldsBuffers (store_of (record a { desk = final; lists = next })).unsent (store_of (record a { desk = final; lists = next })).descs final.pool.sizes app bag
   pub fewer_left : length (unsent_of (store_of (record a { desk = final; lists = next })).unsent app) + 1 ≡ length (unsent_of old.unsent app)
 
-pub is_freed : (a : Inside) (old : Store) (app buf d : ℕ) (desk : Buffers) (next : Held) → store_of a ≡ old → Keeps a →
+pub is_freed : (a : Inside) (old : Store) (app buf d : ℕ) (desk : Buffers) (next : HeldDescs) → store_of a ≡ old → Keeps a →
     1 ≤ app → 0 < times_in (list_of a.lists.lists app) d → number_in (slot_at a.desk.slots d) ≡ buf →
     next ≡ record a.lists { lists = set a.lists.lists (app - 1) (without d (held_by a.lists app)) } →
     ((e : ℕ) → is_live (slot_at a.desk.slots e) ≡ is_out a.desk.pool e) → desk ≡ freed a.desk d → IsFreed a old app buf desk next
@@ -226,11 +226,11 @@ is_freed a old app buf d desk next viewed keeps one mine numbered went live_out 
 -- The first of a list. --
 
 -- a list without its first is the list without that one
-pub without_newest : (a : Inside) (app d : ℕ) (next : Held) → Keeps a → held_by a.lists app ≡ d ∷ held_by next app → next ≡ record a.lists { lists = set a.lists.lists (app - 1) (drop 1 (held_by a.lists app)) } →
+pub without_newest : (a : Inside) (app d : ℕ) (next : HeldDescs) → Keeps a → held_by a.lists app ≡ d ∷ held_by next app → next ≡ record a.lists { lists = set a.lists.lists (app - 1) (drop 1 (held_by a.lists app)) } →
     next ≡ record a.lists { lists = set a.lists.lists (app - 1) (without d (held_by a.lists app)) }
 without_newest a app d next keeps first is =
     is
-    ∙ ap (λ (l : List ℕ). let v : Held = record a.lists { lists = set a.lists.lists (app - 1) l } in v)
+    ∙ ap (λ (l : List ℕ). let v : HeldDescs = record a.lists { lists = set a.lists.lists (app - 1) l } in v)
     (ap (drop 1) first
     ∙ sym (without_head d (held_by next app) (held_by a.lists app) first
     (λ q. let one = times-one a.lists.lists (app - 1) q in let all = once a.desk.slots a.lists.lists keeps.listed q in omega (arith, one, all))))

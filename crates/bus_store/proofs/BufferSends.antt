@@ -9,7 +9,7 @@ use Rattle.ccsds_msg.specs.declared.packet.MsgFault.{MsgFault}
 use Rattle.ccsds_msg.specs.declared.packet.MsgFault.TheVariants.{Short, Length}
 use Rattle.std.proofs.lemmas.Bool.Decides.{nat_tests}
 use Rattle.bucket_list.specs.Lists.{times_in}
-use Rattle.zero_copy.specs.Held.{Held, held_by, without}
+use Rattle.zero_copy.specs.Held.{HeldDescs, held_by, without}
 use Rattle.es_pool.specs.Pool.{PoolState, is_out, class_at, most_cut}
 use Rattle.es_pool.specs.Account.{IsAccountOf}
 use Rattle.buf_desc.specs.Block.{Unsent as UnsentBlock}
@@ -75,7 +75,7 @@ front_long bytes none = at (ltb (length bytes) 7) refl (leb (message_size bytes)
         ∙ ap (λ b. cond {A = Option MsgFault} b (id_fault (message_id bytes)) (Some (Length (message_size bytes) (length bytes)))) w) ∙ e))
 
 module _ (a : Inside) (old : Store) (app buf : ℕ) (bytes : List ℕ) (inc : Bool) (id desc arrived : ℕ) (count : Option ℕ)
-    (mid final : Buffers) (counting next : Tables) (misses : Missed) (lists : Held)
+    (mid final : Buffers) (counting next : Tables) (misses : Missed) (lists : HeldDescs)
     (viewed : store_of a ≡ old) (keeps : Keeps a) (rises : IsRising 0 a.tables.pipes) (one : 1 ≤ app)
     (mine : 0 < times_in (list_of a.lists.lists app) desc) (numbered : number_in (slot_at a.desk.slots desc) ≡ buf)
     (size : unsent_size old.unsent app buf ≡ asked_in (slot_at a.desk.slots desc))
@@ -214,7 +214,7 @@ module _ (a : Inside) (old : Store) (app buf : ℕ) (bytes : List ℕ) (inc : Bo
     after_is =
         ap (λ (t : Tables). let v : Inside = record a { tables = t; desk = last; misses = misses; lists = lists } in v) next_is
         ∙ ap (λ (m : Missed). let v : Inside = record told_after { misses = m; lists = lists } in v) misses_are
-        ∙ ap (λ (l : Held). let v : Inside = record told_after { lists = l } in v) went
+        ∙ ap (λ (l : HeldDescs). let v : Inside = record told_after { lists = l } in v) went
 
     pub passed_keeps : Keeps after
     passed_keeps = subst Keeps (sym after_is) (record {

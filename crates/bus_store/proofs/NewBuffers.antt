@@ -8,7 +8,7 @@ use Rattle.fsw_base.specs.Blocks.{class_of}
 use Rattle.fsw_base.specs.PoolAccounts.{Account, has_room, after_request}
 use Rattle.lend_block.specs.Loan.{LentBytes}
 use Rattle.bucket_list.specs.Lists.{times}
-use Rattle.zero_copy.specs.Held.{Held, held_by}
+use Rattle.zero_copy.specs.Held.{HeldDescs, held_by}
 use Rattle.es_pool.specs.Pool.{is_out, size_at, most_cut}
 use Rattle.buf_desc.specs.Block.{Unsent as UnsentBlock}
 use Rattle.buf_desc.specs.Desk.{Buffers, Takes, IsOf}
@@ -33,7 +33,7 @@ use Rattle.bus_store.proofs.Pool.{IsDrawn, drawn_for, most_drawn}
 use Rattle.bus_store.proofs.ListChanges.{listed_more, unsent_more, desc_more, others_more, bag_more, due_none}
 use Rattle.bus_store.proofs.Ties.{Stays, Moves, named_stay, pipes_stay, loans_stay, tied_moved, open_live, dead_closed, dead_unsealed}
 
-module _ (a : Inside) (old : Store) (app size number : ℕ) (block : UnsentBlock) (mid : Buffers) (next : Held) (viewed : store_of a ≡ old) (keeps : Keeps a)
+module _ (a : Inside) (old : Store) (app size number : ℕ) (block : UnsentBlock) (mid : Buffers) (next : HeldDescs) (viewed : store_of a ≡ old) (keeps : Keeps a)
     (one : 1 ≤ app) (known : app ≤ length old.unsent) (room : has_room old.account size ≡ true) (numbered : number ≡ a.given + 1)
     (taken : Takes a.desk mid size number block) (own : IsOf mid block)
     (live_out : (e : ℕ) → is_live (slot_at a.desk.slots e) ≡ is_out a.desk.pool e) where
@@ -145,7 +145,7 @@ module _ (a : Inside) (old : Store) (app size number : ℕ) (block : UnsentBlock
     after = record a { desk = mid; lists = next; given = number }
 
     after_is : after ≡ record a { desk = mid; lists = record a.lists { lists = lists' }; given = number }
-    after_is = ap (λ (l : Held). let v : Inside = record a { desk = mid; lists = l; given = number } in v) hold
+    after_is = ap (λ (l : HeldDescs). let v : Inside = record a { desk = mid; lists = l; given = number } in v) hold
 
     pub given_keeps : Keeps after
     given_keeps = subst Keeps (sym after_is) (record {

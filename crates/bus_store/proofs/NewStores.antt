@@ -3,7 +3,7 @@ use Rattle.std.proofs.Common.{◌≡◌, ℕ, ◌≤◌, zero, suc, Bool, true, 
 use Rattle.std.proofs.lemmas.List.Elements.{All-nil}
 use Rattle.std.proofs.lemmas.List.Sums.{sum_by-cons}
 use Rattle.bucket_list.specs.Lists.{times, times_in}
-use Rattle.zero_copy.specs.Held.{Held}
+use Rattle.zero_copy.specs.Held.{HeldDescs}
 use Rattle.es_pool.specs.Pool.{most_cut}
 use Rattle.bus_words.specs.Bus.{Buffer}
 use Rattle.fsw_base.specs.Limits.{Limits}
@@ -30,9 +30,9 @@ none_desc zero = refl
 none_desc (suc n) = none_desc n
 
 -- the lists as they are made
-pub lists_are : (limits : Limits) (apps blocks : ℕ) (l : Held) → l ≡ record { descs = blocks; lists = replicate apps [] } → blocks ≡ most_cut (uncut limits.pool limits.sizes).pool →
+pub lists_are : (limits : Limits) (apps blocks : ℕ) (l : HeldDescs) → l ≡ record { descs = blocks; lists = replicate apps [] } → blocks ≡ most_cut (uncut limits.pool limits.sizes).pool →
     l ≡ record { descs = most_cut (uncut limits.pool limits.sizes).pool; lists = replicate apps [] }
-lists_are limits apps blocks l is most = is ∙ ap (λ n. let v : Held = record { descs = n; lists = replicate apps [] } in v) most
+lists_are limits apps blocks l is most = is ∙ ap (λ n. let v : HeldDescs = record { descs = n; lists = replicate apps [] } in v) most
 
 module _ (a : Inside) (limits : Limits) (apps : ℕ) (t : a.tables ≡ tables.opened limits) (d : a.desk ≡ uncut limits.pool limits.sizes) (m : a.misses ≡ record { items = []; dropped = []; room = limits.dests }) (l : a.lists ≡ record { descs = most_cut (uncut limits.pool limits.sizes).pool; lists = replicate apps [] }) (g : a.given ≡ 0) where
   abbrev first : Inside
@@ -43,7 +43,7 @@ module _ (a : Inside) (limits : Limits) (apps : ℕ) (t : a.tables ≡ tables.op
       ap (λ (x : Tables). let v : Inside = record a { tables = x } in v) t
       ∙ ap (λ (x : Buffers). let v : Inside = record a { tables = tables.opened limits; desk = x } in v) d
       ∙ ap (λ (x : Missed). let v : Inside = record a { tables = tables.opened limits; desk = uncut limits.pool limits.sizes; misses = x } in v) m
-      ∙ ap (λ (x : Held). let v : Inside = record first { lists = x; given = a.given } in v) l
+      ∙ ap (λ (x : HeldDescs). let v : Inside = record first { lists = x; given = a.given } in v) l
       ∙ ap (λ (x : ℕ). let v : Inside = record first { given = x } in v) g
 
   off : (b : Bool) → b ≡ false → b ≡ true → ⊥

@@ -11,7 +11,7 @@ use Rattle.bus_words.proofs.PipeItems.{IsOffer, deliver-map, reached-map, drops-
 use Rattle.bus_tables.specs.declared.message.Message.{Message}
 use Rattle.bus_tables.specs.declared.tables.ItemRow.{ItemRow}
 use Rattle.bus_tables.specs.Rows.{Row, offer_of, deliver_rows, reached_rows, drops_rows, missed_rows}
-use Rattle.bus_tables.proofs.MissedItems.{misses_of-map}
+use Rattle.bus_words.proofs.MissedItems.{misses_of-map}
 use Rattle.bus_store.specs.Inside.{item_in, OfItems, AllItems}
 
 -- a change of what the items of a pipe are read as changes nothing where they are read alike

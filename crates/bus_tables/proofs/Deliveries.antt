@@ -10,7 +10,7 @@ use Rattle.bus_words.specs.Bus as bus
 use Rattle.bus_words.specs.Bus.{route}
 use Rattle.pipe_table.specs.Table.{Pipes}
 use Rattle.subscriptions.specs.declared.words.SubNo.{SubNo}
-use Rattle.subscriptions.specs.Subs.{Subscribed, Subscription, number_of, goes_by, live_at, AreInOrder}
+use Rattle.subscriptions.specs.Subs.{Subscribed, LiveSubscription, number_of, goes_by, live_at, AreInOrder}
 use Rattle.routing.specs.Dests.{Dest, first_dest}
 use Rattle.routing.specs.Routing.{Route, Routing, route_from, route_of, dests_at}
 use Rattle.bus_tables.specs.declared.message.Message.{Message}
@@ -46,10 +46,10 @@ route_seen subs id = filter-map (λ s. eqb s.id id) sub_in subs.live
 pub none_of_id : (subs : Subscribed) (routing : Routing) (id : ℕ) → AreRouted subs routing → route_of routing.routes id ≡ None → of_id id subs ≡ []
 none_of_id subs routing id routed none = each subs.live routed.ways
   where
-    each : (live : List Subscription) → All (λ s. is_some (route_of routing.routes s.id) ≡ true) live → filter (λ s. eqb s.id id) live ≡ []
+    each : (live : List LiveSubscription) → All (λ s. is_some (route_of routing.routes s.id) ≡ true) live → filter (λ s. eqb s.id id) live ≡ []
     each [] all = refl
     each (s ∷ live) all =
-        ap (λ b. cond {A = List Subscription} b (s ∷ filter (λ t. eqb t.id id) live) (filter (λ t. eqb t.id id) live)) (ne_eqb s.id id other)
+        ap (λ b. cond {A = List LiveSubscription} b (s ∷ filter (λ t. eqb t.id id) live) (filter (λ t. eqb t.id id) live)) (ne_eqb s.id id other)
         ∙ each live (All-tail (λ t. is_some (route_of routing.routes t.id) ≡ true) s live all)
       where
         other : s.id ≡ id → ⊥
@@ -63,18 +63,18 @@ no_route subs routing id routed none = route_seen subs id ∙ ap (map sub_in) (n
 -- Live subscriptions. --
 
 -- a live subscription is found by its slot and number
-pub each_found : (below : ℕ) (live : List Subscription) → Rises (λ s. s.number) below live → All (λ s. find (goes_by (number_of s)) live ≡ Some s) live
+pub each_found : (below : ℕ) (live : List LiveSubscription) → Rises (λ s. s.number) below live → All (λ s. find (goes_by (number_of s)) live ≡ Some s) live
 each_found below [] rises = All-nil (λ s. find (goes_by (number_of s)) [] ≡ Some s)
 each_found below (x ∷ xs) rises =
     All-cons (λ s. find (goes_by (number_of s)) (x ∷ xs) ≡ Some s) x xs
-    (ap (λ b. cond {A = Option Subscription} b (Some x) (find (goes_by (number_of x)) xs)) (and_from (eqb x.slot x.slot) (eqb x.number x.number) (eq-eqb x.slot x.slot refl) (eq-eqb x.number x.number refl)))
+    (ap (λ b. cond {A = Option LiveSubscription} b (Some x) (find (goes_by (number_of x)) xs)) (and_from (eqb x.slot x.slot) (eqb x.number x.number) (eq-eqb x.slot x.slot refl) (eq-eqb x.number x.number refl)))
     (all_both (λ s. find (goes_by (number_of s)) xs ≡ Some s) (λ s. x.number < s.number) (λ s. find (goes_by (number_of s)) (x ∷ xs) ≡ Some s)
-    (λ s is more. ap (λ b. cond {A = Option Subscription} b (Some x) (find (goes_by (number_of s)) xs))
+    (λ s is more. ap (λ b. cond {A = Option LiveSubscription} b (Some x) (find (goes_by (number_of s)) xs))
     (and_right (eqb x.slot s.slot) (eqb x.number s.number) (ne_eqb x.number s.number (λ same. omega (arith, same, more)))) ∙ is)
     xs (each_found x.number xs rises.1) (all_above (λ s. s.number) x.number xs rises.1))
 
 -- and so it is once counts have changed
-found_now : (first subs : Subscribed) (s : Subscription) → still subs ≡ still first → live_at first (number_of s) ≡ Some s → (t : Subscription) × (live_at subs (number_of s) ≡ Some t) × (sub_in t ≡ sub_in s)
+found_now : (first subs : Subscribed) (s : LiveSubscription) → still subs ≡ still first → live_at first (number_of s) ≡ Some s → (t : LiveSubscription) × (live_at subs (number_of s) ≡ Some t) × (sub_in t ≡ sub_in s)
 found_now first subs s same live = by_found (live_at subs (number_of s)) refl seen
   where
     bare : (some : Subscribed) → find (goes_by (number_of s)) (map uncounted some.live) ≡ option_map uncounted (live_at some (number_of s))
@@ -83,7 +83,7 @@ found_now first subs s same live = by_found (live_at subs (number_of s)) refl se
     seen : option_map uncounted (live_at subs (number_of s)) ≡ Some (uncounted s)
     seen = sym (bare subs) ∙ ap (find (goes_by (number_of s))) (live_still first subs same) ∙ bare first ∙ ap (option_map uncounted) live
 
-    by_found : (o : Option Subscription) → live_at subs (number_of s) ≡ o → option_map uncounted o ≡ Some (uncounted s) → (t : Subscription) × (live_at subs (number_of s) ≡ Some t) × (sub_in t ≡ sub_in s)
+    by_found : (o : Option LiveSubscription) → live_at subs (number_of s) ≡ o → option_map uncounted o ≡ Some (uncounted s) → (t : LiveSubscription) × (live_at subs (number_of s) ≡ Some t) × (sub_in t ≡ sub_in s)
     by_found None is none = absurd (cc (none))
     by_found (Some t) is some =
         let both : uncounted t ≡ uncounted s = cc (some) in
@@ -128,7 +128,7 @@ pub record Told (old : Pipes) (first : Subscribed) (id : ℕ) (message : Message
   pub room : misses.room ≡ start.room
 
 -- of one pipe at most one thing is told
-pub one_told : (message : Message) (sub : bus.Subscription) (rows : List Row) → length (row_misses message sub rows) ≤ 1
+pub one_told : (message : Message) (sub : bus.LiveSubscription) (rows : List Row) → length (row_misses message sub rows) ≤ 1
 one_told message sub rows = by_cause (option_and_then (λ (row : Row). cause_of (verdict (λ (i : ItemRow). i.subscription) row sub message.sender)) (pipe_at rows sub.pipe))
   where
     by_cause : (o : Option MissCause) → length (option_map_or {U = List Miss} (λ cause. record { pipe = sub.pipe; cause = cause } ∷ []) o []) ≤ 1
@@ -177,19 +177,19 @@ module _ (old : Pipes) (first : Subscribed) (routing : Routing) (id way : ℕ) (
     stands = stands_at k (dests_at routing way) (node, sub) walked.at_is
 
     -- the subscription whose turn it is
-    due : (s : Subscription) × (drop k (of_id id first) ≡ s ∷ drop (k + 1) (of_id id first)) × (number_of s ≡ sub)
+    due : (s : LiveSubscription) × (drop k (of_id id first) ≡ s ∷ drop (k + 1) (of_id id first)) × (number_of s ≡ sub)
     due = by_left (drop k (of_id id first)) refl
         (sym (drop-map number_of k (of_id id first)) ∙ ap (drop k) (sym tied) ∙ drop-map (λ dest. dest.1) k (dests_at routing way) ∙ ap (map (λ dest. dest.1)) left)
       where
-        by_left : (l : List Subscription) → drop k (of_id id first) ≡ l → map number_of l ≡ sub ∷ map (λ dest. dest.1) (drop (k + 1) (dests_at routing way)) →
-            (s : Subscription) × (drop k (of_id id first) ≡ s ∷ drop (k + 1) (of_id id first)) × (number_of s ≡ sub)
+        by_left : (l : List LiveSubscription) → drop k (of_id id first) ≡ l → map number_of l ≡ sub ∷ map (λ dest. dest.1) (drop (k + 1) (dests_at routing way)) →
+            (s : LiveSubscription) × (drop k (of_id id first) ≡ s ∷ drop (k + 1) (of_id id first)) × (number_of s ≡ sub)
         by_left [] here none = absurd (cc (none))
         by_left (s ∷ rest) here some = (s, here ∙ ap (λ l. s ∷ l) (left_more k (of_id id first) s rest here), cc (some))
 
     -- it is live
-    now : (t : Subscription) × (live_at subs sub ≡ Some t) × (sub_in t ≡ sub_in due.0)
+    now : (t : LiveSubscription) × (live_at subs sub ≡ Some t) × (sub_in t ≡ sub_in due.0)
     now =
-        let Found : Subscription → Type 0 = λ s. live_at first (number_of s) ≡ Some s in
+        let Found : LiveSubscription → Type 0 = λ s. live_at first (number_of s) ≡ Some s in
         let all : All Found (due.0 ∷ drop (k + 1) (of_id id first)) =
         subst (All Found) due.1 (All-drop Found k (of_id id first) (All-filter (λ s. eqb s.id id) Found first.live (each_found 0 first.live (subs_rise 0 first.live order.rising)))) in
         let found = found_now first subs due.0 walked.same (All-head Found due.0 (drop (k + 1) (of_id id first)) all) in
@@ -200,8 +200,8 @@ module _ (old : Pipes) (first : Subscribed) (routing : Routing) (id way : ℕ) (
 
     -- after one more
     pub walked_more : (at : Option Dest) (after : Pipes) (left_subs : Subscribed) (got : ℕ) →
-        ((s : Subscription) → live_at subs sub ≡ Some s → map row_in after.live ≡ with_pipe (offered_row message (sub_in s)) s.pipe (map row_in pipes.live)) →
-        ((s : Subscription) → live_at subs sub ≡ Some s → got ≡ row_takes message (sub_in s) (map row_in pipes.live)) →
+        ((s : LiveSubscription) → live_at subs sub ≡ Some s → map row_in after.live ≡ with_pipe (offered_row message (sub_in s)) s.pipe (map row_in pipes.live)) →
+        ((s : LiveSubscription) → live_at subs sub ≡ Some s → got ≡ row_takes message (sub_in s) (map row_in pipes.live)) →
         got ≤ 1 → frame after ≡ frame pipes → still left_subs ≡ still subs → AreQueued after.live left_subs →
         at ≡ first_dest (drop (k + 1) (dests_at routing way)) → IfSome at (λ dest. dest.0 < routing.msgids * routing.dests) →
         Walked old first routing id way message (k + 1) at after left_subs (count + got)
@@ -231,8 +231,8 @@ module _ (old : Pipes) (first : Subscribed) (routing : Routing) (id way : ℕ) (
 
     -- what is told after one more
     pub told_more : (start misses after_misses : Missed) (after : Pipes) → Told old first id message start k pipes misses →
-        ((s : Subscription) → live_at subs sub ≡ Some s → after_misses ≡ record misses { items = misses.items ++ row_misses message (sub_in s) (map row_in pipes.live); dropped = misses.dropped ++ row_drops message (sub_in s) (map row_in pipes.live) }) →
-        ((s : Subscription) → live_at subs sub ≡ Some s → map row_in after.live ≡ with_pipe (offered_row message (sub_in s)) s.pipe (map row_in pipes.live)) →
+        ((s : LiveSubscription) → live_at subs sub ≡ Some s → after_misses ≡ record misses { items = misses.items ++ row_misses message (sub_in s) (map row_in pipes.live); dropped = misses.dropped ++ row_drops message (sub_in s) (map row_in pipes.live) }) →
+        ((s : LiveSubscription) → live_at subs sub ≡ Some s → map row_in after.live ≡ with_pipe (offered_row message (sub_in s)) s.pipe (map row_in pipes.live)) →
         Told old first id message start (k + 1) after after_misses
     told_more start misses after_misses after told missed rows =
         let s = due.0 in
@@ -267,7 +267,7 @@ module _ (old : Pipes) (first : Subscribed) (routing : Routing) (id way : ℕ) (
     none_due = by_left (drop k (of_id id first)) refl
         (sym (drop-map number_of k (of_id id first)) ∙ ap (drop k) (sym tied) ∙ drop-map (λ dest. dest.1) k (dests_at routing way) ∙ ap (map (λ dest. dest.1)) none)
       where
-        by_left : (l : List Subscription) → drop k (of_id id first) ≡ l → map number_of l ≡ [] → drop k (of_id id first) ≡ []
+        by_left : (l : List LiveSubscription) → drop k (of_id id first) ≡ l → map number_of l ≡ [] → drop k (of_id id first) ≡ []
         by_left [] here empty = here
         by_left (s ∷ rest) here some = absurd (cc (some))
 

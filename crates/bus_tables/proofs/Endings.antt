@@ -11,7 +11,7 @@ use Rattle.std.proofs.lemmas.List.Elements.{All-nil, All-cons, All-head, All-tai
 use Rattle.fsw_base.proofs.Lists.{list_any-map}
 use Rattle.subscriptions.specs.declared.words.SubNo.{SubNo}
 use Rattle.subscriptions.specs.declared.words.SubRow.{SubRow}
-use Rattle.subscriptions.specs.Subs.{Subscription, Subscribed, row_of, number_of, goes_by, live_at, without, IsRising}
+use Rattle.subscriptions.specs.Subs.{LiveSubscription, Subscribed, row_of, number_of, goes_by, live_at, without, IsRising}
 use Rattle.routing.specs.Dests.{Dest, is_sub, has_sub}
 use Rattle.routing.specs.Dests as dests
 use Rattle.routing.specs.Routing.{Route, Routing, fresh_route, route_at, dests_at, route_from, route_of, with_dests}
@@ -21,23 +21,23 @@ use Rattle.bus_tables.proofs.EndingsLists.{with_implied, found_all, found_passes
 -- Numbers of live subscriptions. --
 
 -- rising numbers are all above the first bound
-pub rising_above : (below : ℕ) (live : List Subscription) → IsRising below live → All (λ s. below < s.number) live
-rising_above below [] rising = All-nil (λ (s : Subscription). below < s.number)
+pub rising_above : (below : ℕ) (live : List LiveSubscription) → IsRising below live → All (λ s. below < s.number) live
+rising_above below [] rising = All-nil (λ (s : LiveSubscription). below < s.number)
 rising_above below (s ∷ live) rising =
     All-cons (λ t. below < t.number) s live rising.0
     (All-weaker (λ t. s.number < t.number) (λ t. below < t.number) (λ t above. omega (arith, above, rising.0)) live (rising_above s.number live rising.1))
 
 -- a lower bound serves too
-rising_lower : (low below : ℕ) (live : List Subscription) → low ≤ below → IsRising below live → IsRising low live
+rising_lower : (low below : ℕ) (live : List LiveSubscription) → low ≤ below → IsRising below live → IsRising low live
 rising_lower low below [] le rising = tt
 rising_lower low below (s ∷ live) le rising = (omega (arith, le, rising.0), rising.1)
 
 -- those that a filter leaves rise too
-pub rising_filter : (p : Subscription → Bool) (below : ℕ) (live : List Subscription) → IsRising below live → IsRising below (filter p live)
+pub rising_filter : (p : LiveSubscription → Bool) (below : ℕ) (live : List LiveSubscription) → IsRising below live → IsRising below (filter p live)
 rising_filter p below [] rising = tt
 rising_filter p below (s ∷ live) rising = choose (p s) (rising_filter p s.number live rising.1)
   where
-    choose : (b : Bool) → IsRising s.number (filter p live) → IsRising below (cond {A = List Subscription} b (s ∷ filter p live) (filter p live))
+    choose : (b : Bool) → IsRising s.number (filter p live) → IsRising below (cond {A = List LiveSubscription} b (s ∷ filter p live) (filter p live))
     choose true ih = (rising.0, ih)
     choose false ih = rising_lower below s.number (filter p live) (omega (arith, rising.0)) ih
 
@@ -51,22 +51,22 @@ and_right true b e = e
 and_right false b e = absurd cc
 
 -- what goes by a slot and a number has both
-pub goes : (sub : SubNo) (s : Subscription) → goes_by sub s ≡ true → (s.slot ≡ sub.slot) × (s.number ≡ sub.number)
+pub goes : (sub : SubNo) (s : LiveSubscription) → goes_by sub s ≡ true → (s.slot ≡ sub.slot) × (s.number ≡ sub.number)
 goes sub s e = (
   eqb-true s.slot sub.slot (and_left (eqb s.slot sub.slot) (eqb s.number sub.number) e),
   eqb-true s.number sub.number (and_right (eqb s.slot sub.slot) (eqb s.number sub.number) e),
 )
 
 -- no other has the number of a live subscription
-pub own_number : (sub : SubNo) (below : ℕ) (live : List Subscription) (s : Subscription) → IsRising below live → find (goes_by sub) live ≡ Some s →
+pub own_number : (sub : SubNo) (below : ℕ) (live : List LiveSubscription) (s : LiveSubscription) → IsRising below live → find (goes_by sub) live ≡ Some s →
     All (λ t. t.number ≡ sub.number → t ≡ s) live
 own_number sub below [] s rising found = absurd cc
 own_number sub below (t ∷ live) s rising found = choose (own_number sub t.number live s rising.1) (goes_by sub t) refl found
   where
-    Own : Subscription → Type 0
+    Own : LiveSubscription → Type 0
     Own u = u.number ≡ sub.number → u ≡ s
 
-    choose : (find (goes_by sub) live ≡ Some s → All Own live) → (b : Bool) → goes_by sub t ≡ b → cond {A = Option Subscription} b (Some t) (find (goes_by sub) live) ≡ Some s → All Own (t ∷ live)
+    choose : (find (goes_by sub) live ≡ Some s → All Own live) → (b : Bool) → goes_by sub t ≡ b → cond {A = Option LiveSubscription} b (Some t) (find (goes_by sub) live) ≡ Some s → All Own (t ∷ live)
     choose rest true e found =
         let same : t ≡ s = cc in
         let its = (goes sub t e).1 in
@@ -80,7 +80,7 @@ own_number sub below (t ∷ live) s rising found = choose (own_number sub t.numb
 -- Destinations. --
 
 -- the destinations of subscriptions, once one of these has ended
-pub without_dest : (sub : SubNo) (ds : List Dest) (below : ℕ) (live : List Subscription) → IsRising below live → All (λ s. s.number ≡ sub.number → s.slot ≡ sub.slot) live →
+pub without_dest : (sub : SubNo) (ds : List Dest) (below : ℕ) (live : List LiveSubscription) → IsRising below live → All (λ s. s.number ≡ sub.number → s.slot ≡ sub.slot) live →
     map (λ dest. dest.1) ds ≡ map number_of live → map (λ dest. dest.1) (dests.without sub ds) ≡ map number_of (filter (λ s. not (eqb s.number sub.number)) live)
 without_dest sub [] below [] rising own same = refl
 without_dest sub [] below (s ∷ live) rising own same = absurd cc
@@ -95,18 +95,18 @@ without_dest sub (d ∷ ds) below (s ∷ live) rising own same =
     ap (λ b. map (λ dest. dest.1) (cond {A = List Dest} b ds (d ∷ dests.without sub ds))) test
     ∙ choose here behind (eqb s.number sub.number) refl (without_dest sub ds s.number live rising.1 (All-tail Own s live own) behind)
   where
-    Own : Subscription → Type 0
+    Own : LiveSubscription → Type 0
     Own u = u.number ≡ sub.number → u.slot ≡ sub.slot
 
-    left : List Subscription
+    left : List LiveSubscription
     left = filter (λ u. not (eqb u.number sub.number)) live
 
-    apart : (u : Subscription) → s.number < u.number → s.number ≡ sub.number → not (eqb u.number sub.number) ≡ true
+    apart : (u : LiveSubscription) → s.number < u.number → s.number ≡ sub.number → not (eqb u.number sub.number) ≡ true
     apart u above is = grind (arith, nat_tests)
 
     choose : d.1 ≡ number_of s → map (λ dest. dest.1) ds ≡ map number_of live → (b : Bool) → eqb s.number sub.number ≡ b →
         map (λ dest. dest.1) (dests.without sub ds) ≡ map number_of left →
-        map (λ dest. dest.1) (cond {A = List Dest} b ds (d ∷ dests.without sub ds)) ≡ map number_of (cond {A = List Subscription} (not b) (s ∷ left) left)
+        map (λ dest. dest.1) (cond {A = List Dest} b ds (d ∷ dests.without sub ds)) ≡ map number_of (cond {A = List LiveSubscription} (not b) (s ∷ left) left)
     choose here behind true e ih =
         behind
         ∙ ap (map number_of)
@@ -153,11 +153,11 @@ route_of_ways (x ∷ xs) (y ∷ ys) same number id =
 -- The end of a subscription. --
 
 -- the live subscription whose row was read
-pub at_row : (o : Option Subscription) (row : SubRow) → option_map row_of o ≡ Some row → (s : Subscription) × (o ≡ Some s) × (s.id ≡ row.id)
+pub at_row : (o : Option LiveSubscription) (row : SubRow) → option_map row_of o ≡ Some row → (s : LiveSubscription) × (o ≡ Some s) × (s.id ≡ row.id)
 at_row None row is = absurd cc
 at_row (Some s) row is = let same : row_of s ≡ row = cc in (s, refl, ap (λ r. r.id) same)
 
-module _ (subs : Subscribed) (routing : Routing) (sub : SubNo) (s : Subscription) (route : ℕ) (rising : IsRising 0 subs.live) (live : live_at subs sub ≡ Some s)
+module _ (subs : Subscribed) (routing : Routing) (sub : SubNo) (s : LiveSubscription) (route : ℕ) (rising : IsRising 0 subs.live) (live : live_at subs sub ≡ Some s)
     (routed : AreRouted subs routing) (is : route_of routing.routes s.id ≡ Some route) where
   -- the route has it as a destination
   pub is_dest : has_sub sub (dests_at routing route) ≡ true
@@ -186,7 +186,7 @@ module _ (subs : Subscribed) (routing : Routing) (sub : SubNo) (s : Subscription
     -- the id's destinations are its subscriptions still
     ended_own : map (λ dest. dest.1) (dests_at next route) ≡ map number_of (of_id s.id (without subs sub))
     ended_own =
-        let Own : Subscription → Type 0 = λ t. t.number ≡ sub.number → t.slot ≡ sub.slot in
+        let Own : LiveSubscription → Type 0 = λ t. t.number ≡ sub.number → t.slot ≡ sub.slot in
         let own = All-weaker (λ t. t.number ≡ sub.number → t ≡ s) Own
         (λ t only has. ap (λ u. u.slot) (only has) ∙ (goes sub s (found_passes (goes_by sub) subs.live s live)).0) subs.live (own_number sub 0 subs.live s rising live) in
         ap (λ n. map (λ dest. dest.1) (dests_at n route)) next_is
@@ -207,7 +207,7 @@ module _ (subs : Subscribed) (routing : Routing) (sub : SubNo) (s : Subscription
         ∙ routed.dests id r at
         ∙ ap (map number_of) (sym (filter_within (λ t. eqb t.id id) (λ t. not (eqb t.number sub.number)) subs.live stays))
       where
-        by_number : (t : Subscription) → (t.number ≡ sub.number → t ≡ s) → eqb t.id id ≡ true → (b : Bool) → eqb t.number sub.number ≡ b → not b ≡ true
+        by_number : (t : LiveSubscription) → (t.number ≡ sub.number → t ≡ s) → eqb t.id id ≡ true → (b : Bool) → eqb t.number sub.number ≡ b → not b ≡ true
         by_number t only has true e = absurd (other (sym (eqb-true t.id id has) ∙ ap (λ u. u.id) (only (eqb-true t.number sub.number e))))
         by_number t only has false e = refl
 
@@ -233,7 +233,7 @@ module _ (subs : Subscribed) (routing : Routing) (sub : SubNo) (s : Subscription
         by_id id r at false e = ended_other id r (λ same. absurd (cc (sym e ∙ eq-eqb id s.id same))) at
 
 -- a live subscription's id has a route
-pub has_route : (subs : Subscribed) (routing : Routing) (sub : SubNo) (s : Subscription) → live_at subs sub ≡ Some s → AreRouted subs routing → route_of routing.routes s.id ≡ None → ⊥
+pub has_route : (subs : Subscribed) (routing : Routing) (sub : SubNo) (s : LiveSubscription) → live_at subs sub ≡ Some s → AreRouted subs routing → route_of routing.routes s.id ≡ None → ⊥
 has_route subs routing sub s live routed none =
     let way = found_all (goes_by sub) (λ t. is_some (route_of routing.routes t.id) ≡ true) subs.live s routed.ways live in
     cc (way, none)
@@ -241,30 +241,30 @@ has_route subs routing sub s live routed none =
 -- The end of a pipe's subscriptions. --
 
 -- the live subscription whose pipe is known
-pub of_pipe : (o : Option Subscription) (pipe : ℕ) → option_map (λ s. s.pipe) o ≡ Some pipe → (s : Subscription) × (o ≡ Some s) × (s.pipe ≡ pipe)
+pub of_pipe : (o : Option LiveSubscription) (pipe : ℕ) → option_map (λ s. s.pipe) o ≡ Some pipe → (s : LiveSubscription) × (o ≡ Some s) × (s.pipe ≡ pipe)
 of_pipe None pipe is = absurd cc
 of_pipe (Some s) pipe is = let same : s.pipe ≡ pipe = cc in (s, refl, same)
 
 -- the end of one that is to go takes none away that is to stay
-pub stays_without : (live : List Subscription) (sub : SubNo) (s : Subscription) (stays : Subscription → Bool) → IsRising 0 live → find (goes_by sub) live ≡ Some s → stays s ≡ false →
+pub stays_without : (live : List LiveSubscription) (sub : SubNo) (s : LiveSubscription) (stays : LiveSubscription → Bool) → IsRising 0 live → find (goes_by sub) live ≡ Some s → stays s ≡ false →
     filter stays (filter (λ t. not (eqb t.number sub.number)) live) ≡ filter stays live
 stays_without live sub s stays rising found goes_too =
     filter_within stays (λ t. not (eqb t.number sub.number)) live
     (All-weaker (λ t. t.number ≡ sub.number → t ≡ s) (λ t. stays t ≡ true → not (eqb t.number sub.number) ≡ true) (λ t only here. by_number t only here (eqb t.number sub.number) refl)
     live (own_number sub 0 live s rising found))
   where
-    by_number : (t : Subscription) → (t.number ≡ sub.number → t ≡ s) → stays t ≡ true → (b : Bool) → eqb t.number sub.number ≡ b → not b ≡ true
+    by_number : (t : LiveSubscription) → (t.number ≡ sub.number → t ≡ s) → stays t ≡ true → (b : Bool) → eqb t.number sub.number ≡ b → not b ≡ true
     by_number t only here true e = absurd (cc (sym here ∙ ap stays (only (eqb-true t.number sub.number e)) ∙ goes_too))
     by_number t only here false e = refl
 
 -- it makes the list shorter
-pub fewer_without : (live : List Subscription) (sub : SubNo) (s : Subscription) → find (goes_by sub) live ≡ Some s → length (filter (λ t. not (eqb t.number sub.number)) live) < length live
+pub fewer_without : (live : List LiveSubscription) (sub : SubNo) (s : LiveSubscription) → find (goes_by sub) live ≡ Some s → length (filter (λ t. not (eqb t.number sub.number)) live) < length live
 fewer_without live sub s found =
     filter_shorter (goes_by sub) (λ t. not (eqb t.number sub.number)) live s found
     (ap not (eq-eqb s.number sub.number (goes sub s (found_passes (goes_by sub) live s found)).1))
 
 -- a pipe that has no subscription
-pub none_of_pipe : (live : List Subscription) (pipe : ℕ) → (IsTrue (list_any (λ s. eqb s.pipe pipe) live) → ⊥) → filter (λ s. not (eqb s.pipe pipe)) live ≡ live
+pub none_of_pipe : (live : List LiveSubscription) (pipe : ℕ) → (IsTrue (list_any (λ s. eqb s.pipe pipe) live) → ⊥) → filter (λ s. not (eqb s.pipe pipe)) live ≡ live
 none_of_pipe live pipe none =
     filter_whole (λ s. not (eqb s.pipe pipe)) live
     (All-weaker (λ s. eqb s.pipe pipe ≡ false) (λ s. not (eqb s.pipe pipe) ≡ true) (λ s other. ap not other) live
@@ -275,7 +275,7 @@ none_of_pipe live pipe none =
     is_false false never = refl
 
 -- what a further change leaves as it was at first
-pub same_frame : (first before after : Subscribed) (live : List Subscription) → after ≡ record before { live = live } → before ≡ record first { live = before.live } → after ≡ record first { live = after.live }
+pub same_frame : (first before after : Subscribed) (live : List LiveSubscription) → after ≡ record before { live = live } → before ≡ record first { live = before.live } → after ≡ record first { live = after.live }
 same_frame first before after live is was =
     is ∙ ap (λ s. let v : Subscribed = record s { live = live } in v) was ∙ sym (ap (λ s. let v : Subscribed = record first { live = s.live } in v) is)
 

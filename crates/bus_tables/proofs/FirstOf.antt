@@ -9,7 +9,7 @@ use Rattle.std.proofs.lemmas.List.Elements.{All-head, All-drop, filter_passes, A
 use Rattle.bus_words.proofs.Finds.{find-filter}
 use Rattle.subscriptions.specs.declared.words.SubNo.{SubNo}
 use Rattle.subscriptions.specs.declared.words.SubRow.{SubRow}
-use Rattle.subscriptions.specs.Subs.{Subscribed, Subscription, number_of, live_at, row_of, AreInOrder}
+use Rattle.subscriptions.specs.Subs.{Subscribed, LiveSubscription, number_of, live_at, row_of, AreInOrder}
 use Rattle.routing.specs.Dests.{Dest, first_dest}
 use Rattle.routing.specs.Routing.{Routing, route_of, dests_at}
 use Rattle.bus_tables.specs.Inside.{of_id, ties, first_of, AreRouted}
@@ -51,19 +51,19 @@ module _ (subs : Subscribed) (routing : Routing) (id pipe way : ℕ)
     here = first_left k (dests_at routing way) (node, sub) passed.at_is
 
     -- the subscription whose turn it is
-    due : (s : Subscription) × (drop k (of_id id subs) ≡ s ∷ drop (k + 1) (of_id id subs)) × (number_of s ≡ sub)
+    due : (s : LiveSubscription) × (drop k (of_id id subs) ≡ s ∷ drop (k + 1) (of_id id subs)) × (number_of s ≡ sub)
     due = by_left (drop k (of_id id subs)) refl
         (sym (drop-map number_of k (of_id id subs)) ∙ ap (drop k) (sym tied) ∙ drop-map (λ dest. dest.1) k (dests_at routing way) ∙ ap (map (λ dest. dest.1)) here)
       where
-        by_left : (l : List Subscription) → drop k (of_id id subs) ≡ l → map number_of l ≡ sub ∷ map (λ dest. dest.1) (drop (k + 1) (dests_at routing way)) →
-            (s : Subscription) × (drop k (of_id id subs) ≡ s ∷ drop (k + 1) (of_id id subs)) × (number_of s ≡ sub)
+        by_left : (l : List LiveSubscription) → drop k (of_id id subs) ≡ l → map number_of l ≡ sub ∷ map (λ dest. dest.1) (drop (k + 1) (dests_at routing way)) →
+            (s : LiveSubscription) × (drop k (of_id id subs) ≡ s ∷ drop (k + 1) (of_id id subs)) × (number_of s ≡ sub)
         by_left [] none some = absurd (cc (some))
         by_left (s ∷ rest) at some = (s, at ∙ ap (λ l. s ∷ l) (left_more k (of_id id subs) s rest at), cc (some))
 
     -- it is live
     live : live_at subs sub ≡ Some due.0
     live =
-        let Found : Subscription → Type 0 = λ s. live_at subs (number_of s) ≡ Some s in
+        let Found : LiveSubscription → Type 0 = λ s. live_at subs (number_of s) ≡ Some s in
         let all : All Found (due.0 ∷ drop (k + 1) (of_id id subs)) =
         subst (All Found) due.1 (All-drop Found k (of_id id subs) (All-filter (λ s. eqb s.id id) Found subs.live (each_found 0 subs.live (subs_rise 0 subs.live order.rising)))) in
         subst (λ n. live_at subs n ≡ Some due.0) due.2 (All-head Found due.0 (drop (k + 1) (of_id id subs)) all)
@@ -87,7 +87,7 @@ module _ (subs : Subscribed) (routing : Routing) (id pipe way : ℕ)
     pub found_here : (row : SubRow) → option_map row_of (live_at subs sub) ≡ Some row → row.pipe ≡ pipe → Some sub ≡ first_of subs id pipe
     found_here row at same =
         ap Some (sym due.2)
-        ∙ ap (λ b. option_map number_of (cond {A = Option Subscription} b (Some due.0) (find (ties id pipe) (drop (k + 1) (of_id id subs)))))
+        ∙ ap (λ b. option_map number_of (cond {A = Option LiveSubscription} b (Some due.0) (find (ties id pipe) (drop (k + 1) (of_id id subs)))))
         (sym (and_from (eqb due.0.id id) (eqb due.0.pipe pipe) its (holds due.0.pipe pipe (pipe_is row at ∙ same))))
         ∙ ap (λ l. option_map number_of (find (ties id pipe) l)) (sym due.1)
         ∙ ap (option_map number_of) passed.left
@@ -102,7 +102,7 @@ module _ (subs : Subscribed) (routing : Routing) (id pipe way : ℕ)
       at_is = next_is;
       low = low;
       left =
-          ap (λ b. cond {A = Option Subscription} b (Some due.0) (find (ties id pipe) (drop (k + 1) (of_id id subs))))
+          ap (λ b. cond {A = Option LiveSubscription} b (Some due.0) (find (ties id pipe) (drop (k + 1) (of_id id subs))))
           (sym (fails (eqb due.0.id id) due.0.pipe pipe (λ e. other (sym (pipe_is row at) ∙ e))))
           ∙ ap (find (ties id pipe)) (sym due.1)
           ∙ passed.left;
@@ -124,6 +124,6 @@ module _ (subs : Subscribed) (routing : Routing) (id pipe way : ℕ)
       (sym (drop-map number_of k (of_id id subs)) ∙ ap (drop k) (sym tied) ∙ drop-map (λ dest. dest.1) k (dests_at routing way) ∙ ap (map (λ dest. dest.1)) none) in
       ap (λ l. option_map number_of (find (ties id pipe) l)) (sym empty) ∙ ap (option_map number_of) passed.left
     where
-      by_left : (l : List Subscription) → drop k (of_id id subs) ≡ l → map number_of l ≡ [] → drop k (of_id id subs) ≡ []
+      by_left : (l : List LiveSubscription) → drop k (of_id id subs) ≡ l → map number_of l ≡ [] → drop k (of_id id subs) ≡ []
       by_left [] at empty = at
       by_left (s ∷ rest) at some = absurd (cc (some))

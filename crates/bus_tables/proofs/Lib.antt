@@ -13,6 +13,5 @@ mod Routes
 mod PipeChanges
 mod NewSubscriptions
 mod Readers
-pub mod MissedItems
 pub mod UseCounts
 mod FirstOf

@@ -18,7 +18,7 @@ use Rattle.bus_words.specs.Bus as bus
 use Rattle.pipe_queue.specs.declared.item.Item.{Item}
 use Rattle.bus_words.specs.Pipes.{PipeOf, pipe_at}
 use Rattle.pipe_table.specs.Table.{Pipes}
-use Rattle.subscriptions.specs.Subs.{Subscription, Subscribed, number_of}
+use Rattle.subscriptions.specs.Subs.{LiveSubscription, Subscribed, number_of}
 use Rattle.routing.specs.Dests.{Dest}
 use Rattle.routing.specs.Routing.{Route, Routing, fresh_route, route_at, dests_at, route_from, route_of, with_dests}
 use Rattle.bus_tables.specs.Rows.{Row, RouteRow, with_route}
@@ -36,12 +36,12 @@ pub record Leads (subscribed : Subscribed) (old new : Routing) (id route : ℕ) 
   pub ways : map way_in new.routes ≡ with_route (map way_in old.routes) id
 
 -- an id without a route has no subscriptions
-none_of : (routes : List Route) (live : List Subscription) (id : ℕ) → route_of routes id ≡ None → All (λ s. is_some (route_of routes s.id) ≡ true) live → filter (λ s. eqb s.id id) live ≡ []
+none_of : (routes : List Route) (live : List LiveSubscription) (id : ℕ) → route_of routes id ≡ None → All (λ s. is_some (route_of routes s.id) ≡ true) live → filter (λ s. eqb s.id id) live ≡ []
 none_of routes [] id none ways = refl
 none_of routes (s ∷ live) id none ways =
     by_test (eqb s.id id) refl (none_of routes live id none (All-tail (λ t. is_some (route_of routes t.id) ≡ true) s live ways))
   where
-    by_test : (b : Bool) → eqb s.id id ≡ b → filter (λ t. eqb t.id id) live ≡ [] → cond {A = List Subscription} b (s ∷ filter (λ t. eqb t.id id) live) (filter (λ t. eqb t.id id) live) ≡ []
+    by_test : (b : Bool) → eqb s.id id ≡ b → filter (λ t. eqb t.id id) live ≡ [] → cond {A = List LiveSubscription} b (s ∷ filter (λ t. eqb t.id id) live) (filter (λ t. eqb t.id id) live) ≡ []
     by_test true test rest =
         let has : is_some (route_of routes s.id) ≡ true = All-head (λ t. is_some (route_of routes t.id) ≡ true) s live ways in
         let no : false ≡ true = sym (ap is_some (ap (route_of routes) (eqb-true s.id id test) ∙ none)) ∙ has in
@@ -162,10 +162,10 @@ dests_few subscribed r id route routed way =
     ∙ ap length (routed.dests id route way)
     ∙ length-map (of_id id subscribed) number_of
     ∙ sym (length-map (of_id id subscribed) sub_in)
-    ∙ ap length (sym (filter-map (λ (sub : bus.Subscription). eqb sub.id id) sub_in subscribed.live))
+    ∙ ap length (sym (filter-map (λ (sub : bus.LiveSubscription). eqb sub.id id) sub_in subscribed.live))
 
 -- live subscriptions are no more than their ids' routes have
-each_counted : (number : ℕ) (live : List Subscription) (routes : List Route) → All (λ s. is_some (route_from number routes s.id) ≡ true) live →
+each_counted : (number : ℕ) (live : List LiveSubscription) (routes : List Route) → All (λ s. is_some (route_from number routes s.id) ≡ true) live →
     length live ≤ sum_by (λ r. count_by (λ s. eqb s.id r.id) live) routes
 each_counted number [] routes all = omega arith
 each_counted number (s ∷ live) routes all =
@@ -196,7 +196,7 @@ each_counted number (s ∷ live) routes all =
           sum_by-cons (λ (q : Route). count_by (λ t. eqb t.id q.id) (s ∷ live)) r routes,
           sum_by-cons (λ (q : Route). cond {A = ℕ} (eqb s.id q.id) 1 0) r routes,
           sum_by-cons (λ (q : Route). count_by (λ t. eqb t.id q.id) live) r routes,
-          sum_by-cons (λ (t : Subscription). cond {A = ℕ} (eqb t.id r.id) 1 0) s live,
+          sum_by-cons (λ (t : LiveSubscription). cond {A = ℕ} (eqb t.id r.id) 1 0) s live,
         )
 
 -- a sum of terms that are at most a bound, one of them below it
@@ -264,7 +264,7 @@ none_and : (n : ℕ) → n ≡ 0 → 0 + n ≡ 0
 none_and n is = omega (arith, is)
 
 -- no subscription ties the id to the pipe, so one more is the only one
-none_ties : (p : Subscription → Bool) (live : List Subscription) → list_any p live ≡ false → count_by p live ≡ 0
+none_ties : (p : LiveSubscription → Bool) (live : List LiveSubscription) → list_any p live ≡ false → count_by p live ≡ 0
 none_ties p [] none = refl
 none_ties p (s ∷ live) none = sum_by-cons (λ t. cond {A = ℕ} (p t) 1 0) s live ∙ by_test (p s) none (none_ties p live)
   where
@@ -273,7 +273,7 @@ none_ties p (s ∷ live) none = sum_by-cons (λ t. cond {A = ℕ} (p t) 1 0) s l
     by_test false is ih = none_and (count_by p live) (ih is)
 
 -- the id's destinations are its subscriptions again
-pub routed_more : (subscribed : Subscribed) (r : Routing) (route node made : ℕ) (s : Subscription) → AreRouted subscribed r → route_of r.routes s.id ≡ Some route →
+pub routed_more : (subscribed : Subscribed) (r : Routing) (route node made : ℕ) (s : LiveSubscription) → AreRouted subscribed r → route_of r.routes s.id ≡ Some route →
     list_any (ties s.id s.pipe) subscribed.live ≡ false →
     AreRouted (record subscribed { made = made; live = subscribed.live ++ s ∷ [] }) (with_dests r route (dests_at r route ++ (node, number_of s) ∷ []))
 routed_more subscribed r route node made s routed way none =
@@ -307,7 +307,7 @@ routed_more subscribed r route node made s routed way none =
         ∙ map_push (λ (dest : Dest). dest.1) (dests_at r route) (node, number_of s)
         ∙ ap (λ l. l ++ number_of s ∷ []) (ap (λ n. map (λ (dest : Dest). dest.1) (dests_at r n)) (sym there) ∙ routed.dests id place is)
         ∙ sym (map_push number_of (of_id id subscribed) s)
-        ∙ ap (λ b. map number_of (of_id id subscribed ++ cond {A = List Subscription} b (s ∷ []) [])) (sym test)
+        ∙ ap (λ b. map number_of (of_id id subscribed ++ cond {A = List LiveSubscription} b (s ∷ []) [])) (sym test)
         ∙ ap (map number_of) (sym (filter-append (λ t. eqb t.id id) subscribed.live (s ∷ [])))
     by_id id place is false test =
         let dests = dests_at r route ++ (node, number_of s) ∷ [] in
@@ -315,10 +315,10 @@ routed_more subscribed r route node made s routed way none =
         ap (λ (t : Route). map (λ (dest : Dest). dest.1) t.dests) (get_or-set_other r.routes route place x (fresh_route 0) (elsewhere id place is test))
         ∙ routed.dests id place is
         ∙ ap (map number_of) (drop_none (of_id id subscribed))
-        ∙ ap (λ b. map number_of (of_id id subscribed ++ cond {A = List Subscription} b (s ∷ []) [])) (sym test)
+        ∙ ap (λ b. map number_of (of_id id subscribed ++ cond {A = List LiveSubscription} b (s ∷ []) [])) (sym test)
         ∙ ap (map number_of) (sym (filter-append (λ t. eqb t.id id) subscribed.live (s ∷ [])))
       where
-        drop_none : (l : List Subscription) → l ≡ l ++ []
+        drop_none : (l : List LiveSubscription) → l ≡ l ++ []
         drop_none [] = refl
         drop_none (t ∷ l) = ap (λ rest. t ∷ rest) (drop_none l)
 
@@ -377,7 +377,7 @@ none_waits subscribed pipe number (item ∷ queue) above all =
     other a b less = grind (arith, nat_tests)
 
 -- what waits stays counted where a subscription is made of which nothing waits
-pub queued_more : (rows : List (PipeOf Item)) (subscribed : Subscribed) (s : Subscription) → AreQueued rows subscribed → is_some (pipe_at rows s.pipe) ≡ true →
+pub queued_more : (rows : List (PipeOf Item)) (subscribed : Subscribed) (s : LiveSubscription) → AreQueued rows subscribed → is_some (pipe_at rows s.pipe) ≡ true →
     s.number ≡ subscribed.made + 1 → s.waiting ≡ 0 → AreQueued rows (record subscribed { made = s.number; live = subscribed.live ++ s ∷ [] })
 queued_more rows subscribed s queued live number nothing =
     let Are : Subscribed → PipeOf Item → Type 0 = λ b row. All (IsQueued b row.number) row.queue in
@@ -415,11 +415,11 @@ live_found rows pipe live = sym (any_some rows) ∙ (sym (list_any-map (λ (row 
         by_test false ih = ih
 
 -- a pair that contracts see no subscription of is tied by none
-pub none_tied : (live : List Subscription) (id pipe : ℕ) → bus.is_subscribed (map sub_in live) id pipe ≡ false → list_any (ties id pipe) live ≡ false
-none_tied live id pipe none = sym (list_any-map (λ (sub : bus.Subscription). eqb sub.id id && eqb sub.pipe pipe) sub_in live) ∙ none
+pub none_tied : (live : List LiveSubscription) (id pipe : ℕ) → bus.is_subscribed (map sub_in live) id pipe ≡ false → list_any (ties id pipe) live ≡ false
+none_tied live id pipe none = sym (list_any-map (λ (sub : bus.LiveSubscription). eqb sub.id id && eqb sub.pipe pipe) sub_in live) ∙ none
 
 -- what contracts see then
-pub seen_more : (pipes : Pipes) (subscribed : Subscribed) (old new : Routing) (route node : ℕ) (s : Subscription) → Leads subscribed old new s.id route → s.number ≡ subscribed.made + 1 →
+pub seen_more : (pipes : Pipes) (subscribed : Subscribed) (old new : Routing) (route node : ℕ) (s : LiveSubscription) → Leads subscribed old new s.id route → s.number ≡ subscribed.made + 1 →
     tables_in pipes (record subscribed { made = s.number; live = subscribed.live ++ s ∷ [] }) (with_dests new route (dests_at new route ++ (node, number_of s) ∷ []))
     ≡ record (tables_in pipes subscribed old) {
       subscriptions = map sub_in subscribed.live ++ record { number = subscribed.made + 1; id = s.id; pipe = s.pipe; limit = s.limit; scope = s.scope } ∷ [];
@@ -431,7 +431,7 @@ seen_more pipes subscribed old new route node s lead number =
     let x : Route = record (route_at new route) { dests = dests_at new route ++ (node, number_of s) ∷ [] } in
     ap (λ (ways : List RouteRow). record (tables_in pipes next new) { routes = ways }) (map-set_same way_in new.routes route x (fresh_route 0) refl ∙ lead.ways)
     ∙ ap (λ (r : Routing). record (tables_in pipes next r) { routes = with_route (map way_in old.routes) s.id }) lead.same
-    ∙ ap (λ (l : List bus.Subscription). record (tables_in pipes next old) { subscriptions = l; routes = with_route (map way_in old.routes) s.id }) (map_push sub_in subscribed.live s)
+    ∙ ap (λ (l : List bus.LiveSubscription). record (tables_in pipes next old) { subscriptions = l; routes = with_route (map way_in old.routes) s.id }) (map_push sub_in subscribed.live s)
     ∙ ap (λ (n : ℕ). record (tables_in pipes subscribed old) {
       subscriptions = map sub_in subscribed.live ++ record { number = n; id = s.id; pipe = s.pipe; limit = s.limit; scope = s.scope } ∷ [];
       subscriptions_made = n;

@@ -13,11 +13,11 @@ use Rattle.bus_words.proofs.PipeItems.{waiting_of-map, verdict_over-map, dropped
 use Rattle.pipe_table.specs.Table.{place_of}
 use Rattle.subscriptions.specs.declared.words.SubNo.{SubNo}
 use denote.Enum.Bare.{sameb}
-use Rattle.subscriptions.specs.contracts.words.Verdict.{the_type}
+use Rattle.subscriptions.specs.contracts.words.Admission.{the_type}
 use Rattle.subscriptions.specs.declared.words.SubRow.{SubRow}
-use Rattle.subscriptions.specs.declared.words.Verdict as own
-use Rattle.subscriptions.specs.declared.words.Verdict.TheVariants.{Inside, OverLimit}
-use Rattle.subscriptions.specs.Subs.{Subscribed, Subscription, row_of, goes_by, live_at, verdict_of, one_more, with_change, AreInOrder}
+use Rattle.subscriptions.specs.declared.words.Admission as own
+use Rattle.subscriptions.specs.declared.words.Admission.TheVariants.{Inside, OverLimit}
+use Rattle.subscriptions.specs.Subs.{Subscribed, LiveSubscription, row_of, goes_by, live_at, admission_of, one_more, with_change, AreInOrder}
 use Rattle.bus_tables.specs.declared.message.Message.{Message}
 use Rattle.bus_words.specs.declared.miss.Miss.{Miss}
 use Rattle.bus_tables.specs.declared.tables.ItemRow.{ItemRow}
@@ -28,7 +28,7 @@ use Rattle.bus_tables.proofs.OffersRows.{changed, only_row, pipe_row-with_row, o
 use Rattle.bus_tables.proofs.OffersSubs.{only_sub, still-with_change, all_still, queued_still}
 
 -- a subscription has the slot and number that it goes by
-pub goes_by_parts : (sub : SubNo) (s : Subscription) → goes_by sub s ≡ true → (s.slot ≡ sub.slot) × (s.number ≡ sub.number)
+pub goes_by_parts : (sub : SubNo) (s : LiveSubscription) → goes_by sub s ≡ true → (s.slot ≡ sub.slot) × (s.number ≡ sub.number)
 goes_by_parts sub s is =
     let both = and_parts (eqb s.slot sub.slot) (eqb s.number sub.number) is in
     (eqb-true s.slot sub.slot both.0, eqb-true s.number sub.number both.1)
@@ -38,13 +38,13 @@ abbrev pub with_item : Item → PipeOf Item → PipeOf Item
 with_item item row = record row { queue = row.queue ++ item ∷ [] }
 
 -- a live subscription's pipe, on which as many of its messages wait as it counts
-pub record IsPipe (rows : List (PipeOf Item)) (s : Subscription) (row : PipeOf Item) : Type 0 where
+pub record IsPipe (rows : List (PipeOf Item)) (s : LiveSubscription) (row : PipeOf Item) : Type 0 where
   pub here : pipe_at rows s.pipe ≡ Some row
   pub number : row.number ≡ s.pipe
   pub waits : waiting_at row s.number ≡ s.waiting
   pub only : All (λ other. other.number ≡ row.number → other ≡ row) rows
 
-pub pipe_here : (rows : List (PipeOf Item)) (subs : Subscribed) (sub : SubNo) (s : Subscription) → IsRising 0 rows → AreQueued rows subs → live_at subs sub ≡ Some s → (row : PipeOf Item) × IsPipe rows s row
+pub pipe_here : (rows : List (PipeOf Item)) (subs : Subscribed) (sub : SubNo) (s : LiveSubscription) → IsRising 0 rows → AreQueued rows subs → live_at subs sub ≡ Some s → (row : PipeOf Item) × IsPipe rows s row
 pipe_here rows subs sub s rising queued live = by_row (pipe_at rows s.pipe) refl (found_is (IsCounted rows) (goes_by sub) subs.live s queued.counted live)
   where
     by_row : (o : Option (PipeOf Item)) → pipe_at rows s.pipe ≡ o → option_map (λ row. waiting_at row s.number) o ≡ Some s.waiting → (row : PipeOf Item) × IsPipe rows s row
@@ -63,7 +63,7 @@ pipe_here rows subs sub s rising queued live = by_row (pipe_at rows s.pipe) refl
 abbrev pub told_by : ℕ → Verdict → List Miss
 told_by pipe told = option_map_or (λ cause. record { pipe = pipe; cause = cause } ∷ []) (cause_of told) []
 
-module _ (rows : List (PipeOf Item)) (s : Subscription) (row : PipeOf Item) (pipe : IsPipe rows s row) (message : Message) where
+module _ (rows : List (PipeOf Item)) (s : LiveSubscription) (row : PipeOf Item) (pipe : IsPipe rows s row) (message : Message) where
   -- the verdict at the pipe
   abbrev pub verdict_here : Verdict
   verdict_here = verdict_over (leb s.limit s.waiting) row message.sender
@@ -159,7 +159,7 @@ module _ (rows : List (PipeOf Item)) (s : Subscription) (row : PipeOf Item) (pip
 
 -- What waits then. --
 
-module _ (rows : List (PipeOf Item)) (subs : Subscribed) (sub : SubNo) (s : Subscription) (row : PipeOf Item) (item : Item)
+module _ (rows : List (PipeOf Item)) (subs : Subscribed) (sub : SubNo) (s : LiveSubscription) (row : PipeOf Item) (item : Item)
     (order : AreInOrder subs) (queued : AreQueued rows subs) (live : live_at subs sub ≡ Some s) (pipe : IsPipe rows s row)
     (own : item.sub ≡ sub) where
   abbrev after : Subscribed
@@ -188,7 +188,7 @@ module _ (rows : List (PipeOf Item)) (subs : Subscribed) (sub : SubNo) (s : Subs
       ∙ ap (λ n. n + 1) pipe.waits)
 
   -- no more of another one
-  other_count : (t : Subscription) → (t.number ≡ s.number → ⊥) → (r : PipeOf Item) → waiting_at (with_item item r) t.number ≡ waiting_at r t.number
+  other_count : (t : LiveSubscription) → (t.number ≡ s.number → ⊥) → (r : PipeOf Item) → waiting_at (with_item item r) t.number ≡ waiting_at r t.number
   other_count t other r =
       sum_by_push (λ i. cond {A = ℕ} (eqb i.sub.number t.number) 1 0) r.queue item
       ∙ ap (λ b. waiting_at r t.number + cond {A = ℕ} b 1 0) apart
@@ -197,8 +197,8 @@ module _ (rows : List (PipeOf Item)) (subs : Subscribed) (sub : SubNo) (s : Subs
       apart : eqb item.sub.number t.number ≡ false
       apart = false_from_ne_true (eqb item.sub.number t.number) (λ equal. other (sym (eqb-true item.sub.number t.number equal) ∙ numbered))
 
-  counted : (t : Subscription) → IsCounted rows t → (t.number ≡ s.number → t ≡ s) → (b : Bool) → goes_by sub t ≡ b →
-      IsCounted (with_pipe (with_item item) s.pipe rows) (cond {A = Subscription} b (one_more t) t)
+  counted : (t : LiveSubscription) → IsCounted rows t → (t.number ≡ s.number → t ≡ s) → (b : Bool) → goes_by sub t ≡ b →
+      IsCounted (with_pipe (with_item item) s.pipe rows) (cond {A = LiveSubscription} b (one_more t) t)
   counted t is single true here =
       let it : t ≡ s = single ((goes_by_parts sub t here).1 ∙ sym (goes_by_parts sub s goes).1) in
       subst (λ u. IsCounted (with_pipe (with_item item) s.pipe rows) (one_more u)) (sym it) own_count
@@ -214,10 +214,10 @@ module _ (rows : List (PipeOf Item)) (subs : Subscribed) (sub : SubNo) (s : Subs
     own = all_still (IsOf s.pipe item) subs after (λ t is. is) (λ t is. is) same (All-weaker (λ t. t.number ≡ s.number → t ≡ s) (IsOf s.pipe item) its subs.live only);
   }
     where
-      its : (t : Subscription) → (t.number ≡ s.number → t ≡ s) → IsOf s.pipe item t
+      its : (t : LiveSubscription) → (t.number ≡ s.number → t ≡ s) → IsOf s.pipe item t
       its t single equal =
           let it : t ≡ s = single (equal ∙ numbered) in
-          (ap (λ (u : Subscription). u.slot) it ∙ (goes_by_parts sub s goes).0 ∙ sym (ap (λ (n : SubNo). n.slot) own), ap (λ (u : Subscription). u.pipe) it)
+          (ap (λ (u : LiveSubscription). u.slot) it ∙ (goes_by_parts sub s goes).0 ∙ sym (ap (λ (n : SubNo). n.slot) own), ap (λ (u : LiveSubscription). u.pipe) it)
 
   items : (r : PipeOf Item) → All (IsQueued subs r.number) r.queue → (b : Bool) → eqb r.number s.pipe ≡ b →
       All (IsQueued after (cond {A = PipeOf Item} b (with_item item r) r).number) (cond {A = PipeOf Item} b (with_item item r) r).queue
@@ -234,8 +234,8 @@ module _ (rows : List (PipeOf Item)) (subs : Subscribed) (sub : SubNo) (s : Subs
   pub queued_more : AreQueued (with_pipe (with_item item) s.pipe rows) (with_change subs sub one_more)
   queued_more = record {
     counted =
-        All-map (IsCounted (with_pipe (with_item item) s.pipe rows)) (λ t. cond {A = Subscription} (goes_by sub t) (one_more t) t) subs.live
-        (all_both (IsCounted rows) (λ t. t.number ≡ s.number → t ≡ s) (λ t. IsCounted (with_pipe (with_item item) s.pipe rows) (cond {A = Subscription} (goes_by sub t) (one_more t) t))
+        All-map (IsCounted (with_pipe (with_item item) s.pipe rows)) (λ t. cond {A = LiveSubscription} (goes_by sub t) (one_more t) t) subs.live
+        (all_both (IsCounted rows) (λ t. t.number ≡ s.number → t ≡ s) (λ t. IsCounted (with_pipe (with_item item) s.pipe rows) (cond {A = LiveSubscription} (goes_by sub t) (one_more t) t))
         (λ t is single. counted t is single (goes_by sub t) refl) subs.live queued.counted only);
     items =
         All-map (λ r. All (IsQueued after r.number) r.queue) (changed (with_item item) s.pipe) rows
@@ -246,34 +246,34 @@ module _ (rows : List (PipeOf Item)) (subs : Subscribed) (sub : SubNo) (s : Subs
 -- What the calls tell. --
 
 -- the pipe of a live subscription
-pub placed_is : (places : List (ℕ × ℕ)) (subs : Subscribed) (sub : SubNo) (s : Subscription) (row : SubRow) → ArePlaced places subs → option_map row_of (live_at subs sub) ≡ Some row → live_at subs sub ≡ Some s →
+pub placed_is : (places : List (ℕ × ℕ)) (subs : Subscribed) (sub : SubNo) (s : LiveSubscription) (row : SubRow) → ArePlaced places subs → option_map row_of (live_at subs sub) ≡ Some row → live_at subs sub ≡ Some s →
     place_of places row.pipe ≡ Some row.place
 placed_is places subs sub s row placed is live =
     let same : row_of s ≡ row = cc (is, live) in
     subst (λ (r : SubRow). place_of places r.pipe ≡ Some r.place) same (found_is (IsPlaced places) (goes_by sub) subs.live s placed live)
 
-pub pipe_is : (subs : Subscribed) (sub : SubNo) (s : Subscription) (row : SubRow) → option_map row_of (live_at subs sub) ≡ Some row → live_at subs sub ≡ Some s → row.pipe ≡ s.pipe
+pub pipe_is : (subs : Subscribed) (sub : SubNo) (s : LiveSubscription) (row : SubRow) → option_map row_of (live_at subs sub) ≡ Some row → live_at subs sub ≡ Some s → row.pipe ≡ s.pipe
 pipe_is subs sub s row is live =
     let same : row_of s ≡ row = cc (is, live) in
     ap (λ (r : SubRow). r.pipe) (sym same)
 
 -- how many of its messages wait
-pub waiting_is : (subs : Subscribed) (sub : SubNo) (s : Subscription) (row : SubRow) → option_map row_of (live_at subs sub) ≡ Some row → live_at subs sub ≡ Some s → row.waiting ≡ s.waiting
+pub waiting_is : (subs : Subscribed) (sub : SubNo) (s : LiveSubscription) (row : SubRow) → option_map row_of (live_at subs sub) ≡ Some row → live_at subs sub ≡ Some s → row.waiting ≡ s.waiting
 waiting_is subs sub s row is live =
     let same : row_of s ≡ row = cc (is, live) in
     ap (λ (r : SubRow). r.waiting) (sym same)
 
 -- the number that it goes by
-pub own_number : (subs : Subscribed) (sub : SubNo) (s : Subscription) → live_at subs sub ≡ Some s → sub.number ≡ s.number
+pub own_number : (subs : Subscribed) (sub : SubNo) (s : LiveSubscription) → live_at subs sub ≡ Some s → sub.number ≡ s.number
 own_number subs sub s live = sym (goes_by_parts sub s (found_passes (goes_by sub) subs.live s live)).1
 
 -- whether it is over its limit
-pub over_is : (subs : Subscribed) (sub : SubNo) (s : Subscription) (row : SubRow) (over : Bool) (admitted : own.Verdict) → option_map row_of (live_at subs sub) ≡ Some row → live_at subs sub ≡ Some s →
-    admitted ≡ verdict_of row → over ≡ sameb the_type admitted OverLimit → over ≡ leb s.limit s.waiting
+pub over_is : (subs : Subscribed) (sub : SubNo) (s : LiveSubscription) (row : SubRow) (over : Bool) (admitted : own.Admission) → option_map row_of (live_at subs sub) ≡ Some row → live_at subs sub ≡ Some s →
+    admitted ≡ admission_of row → over ≡ sameb the_type admitted OverLimit → over ≡ leb s.limit s.waiting
 over_is subs sub s row over admitted at live is told =
     let same : row_of s ≡ row = cc (at, live) in
-    told ∙ ap (λ v. sameb the_type v OverLimit) (is ∙ ap verdict_of (sym same)) ∙ by_test (leb s.limit s.waiting)
+    told ∙ ap (λ v. sameb the_type v OverLimit) (is ∙ ap admission_of (sym same)) ∙ by_test (leb s.limit s.waiting)
   where
-    by_test : (b : Bool) → sameb the_type (cond {A = own.Verdict} b OverLimit Inside) OverLimit ≡ b
+    by_test : (b : Bool) → sameb the_type (cond {A = own.Admission} b OverLimit Inside) OverLimit ≡ b
     by_test true = refl
     by_test false = refl

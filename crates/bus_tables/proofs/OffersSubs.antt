@@ -5,18 +5,18 @@ use Rattle.std.proofs.lemmas.List.Elements.{All-map, All-weaker}
 use Rattle.fsw_base.proofs.Lists.{filter-map, count_by-map}
 use Rattle.pipe_queue.specs.declared.item.Item.{Item}
 use Rattle.subscriptions.specs.declared.words.SubNo.{SubNo}
-use Rattle.subscriptions.specs.Subs.{Subscribed, Subscription, number_of, goes_by, live_at, with_change, IsRising, AreInOrder}
+use Rattle.subscriptions.specs.Subs.{Subscribed, LiveSubscription, number_of, goes_by, live_at, with_change, IsRising, AreInOrder}
 use Rattle.routing.specs.Routing.{Routing, route_of}
 use Rattle.bus_tables.specs.Inside.{IsOf, IsQueued, AreRouted, of_id, uncounted, still, ties}
 use Rattle.bus_tables.proofs.OffersLists.{all_unmap, Rises, only_one}
 
 -- the subscriptions rise by number
-pub subs_rise : (below : ℕ) (live : List Subscription) → IsRising below live → Rises (λ s. s.number) below live
+pub subs_rise : (below : ℕ) (live : List LiveSubscription) → IsRising below live → Rises (λ s. s.number) below live
 subs_rise below [] rising = tt
 subs_rise below (s ∷ live) rising = (rising.0, subs_rise s.number live rising.1)
 
 -- no other subscription has the number of a live one
-pub only_sub : (subs : Subscribed) (sub : SubNo) (s : Subscription) → AreInOrder subs → live_at subs sub ≡ Some s → All (λ t. t.number ≡ s.number → t ≡ s) subs.live
+pub only_sub : (subs : Subscribed) (sub : SubNo) (s : LiveSubscription) → AreInOrder subs → live_at subs sub ≡ Some s → All (λ t. t.number ≡ s.number → t ≡ s) subs.live
 only_sub subs sub s order is = only_one (λ t. t.number) (goes_by sub) 0 subs.live s (subs_rise 0 subs.live order.rising) is
 
 -- all but the counts
@@ -24,20 +24,20 @@ pub live_still : (subs after : Subscribed) → still after ≡ still subs → ma
 live_still subs after same = ap (λ (s : Subscribed). s.live) same
 
 -- a change of one count leaves the rest
-pub still-with_change : (subs : Subscribed) (sub : SubNo) (change : Subscription → Subscription) → ((s : Subscription) → uncounted (change s) ≡ uncounted s) → still (with_change subs sub change) ≡ still subs
+pub still-with_change : (subs : Subscribed) (sub : SubNo) (change : LiveSubscription → LiveSubscription) → ((s : LiveSubscription) → uncounted (change s) ≡ uncounted s) → still (with_change subs sub change) ≡ still subs
 still-with_change subs sub change same = ap (λ l. let v : Subscribed = record subs { live = l } in v) (each subs.live)
   where
-    by_test : (s : Subscription) (b : Bool) → uncounted (cond {A = Subscription} b (change s) s) ≡ uncounted s
+    by_test : (s : LiveSubscription) (b : Bool) → uncounted (cond {A = LiveSubscription} b (change s) s) ≡ uncounted s
     by_test s true = same s
     by_test s false = refl
 
-    each : (live : List Subscription) → map uncounted (map (λ s. cond {A = Subscription} (goes_by sub s) (change s) s) live) ≡ map uncounted live
+    each : (live : List LiveSubscription) → map uncounted (map (λ s. cond {A = LiveSubscription} (goes_by sub s) (change s) s) live) ≡ map uncounted live
     each [] = refl
     each (s ∷ live) =
-        ap (λ x. x ∷ map uncounted (map (λ t. cond {A = Subscription} (goes_by sub t) (change t) t) live)) (by_test s (goes_by sub s)) ∙ ap (λ l. uncounted s ∷ l) (each live)
+        ap (λ x. x ∷ map uncounted (map (λ t. cond {A = LiveSubscription} (goes_by sub t) (change t) t) live)) (by_test s (goes_by sub s)) ∙ ap (λ l. uncounted s ∷ l) (each live)
 
 -- what is true of each but for its count stays so
-pub all_still : (P : Subscription → Type 0) (subs after : Subscribed) → ((s : Subscription) → P s → P (uncounted s)) → ((s : Subscription) → P (uncounted s) → P s) →
+pub all_still : (P : LiveSubscription → Type 0) (subs after : Subscribed) → ((s : LiveSubscription) → P s → P (uncounted s)) → ((s : LiveSubscription) → P (uncounted s) → P s) →
     still after ≡ still subs → All P subs.live → All P after.live
 all_still P subs after into out same all =
     All-weaker (λ s. P (uncounted s)) P out after.live
@@ -56,7 +56,7 @@ pub of_id-still : (subs after : Subscribed) (id : ℕ) → still after ≡ still
 of_id-still subs after id same =
     sym (bare after) ∙ ap (λ l. map number_of (filter (λ s. eqb s.id id) l)) (live_still subs after same) ∙ bare subs
   where
-    twice : (live : List Subscription) → map number_of (map uncounted live) ≡ map number_of live
+    twice : (live : List LiveSubscription) → map number_of (map uncounted live) ≡ map number_of live
     twice [] = refl
     twice (s ∷ live) = ap (λ l. number_of s ∷ l) (twice live)
 

@@ -6,7 +6,7 @@ use Rattle.std.proofs.lemmas.List.Elements.{All-weaker, All-filter, filter_passe
 use Rattle.pipe_queue.specs.declared.item.Item.{Item}
 use Rattle.bus_words.specs.Pipes.{PipeOf, pipe_at}
 use Rattle.pipe_table.specs.Table.{Pipes, place_of, without_place}
-use Rattle.subscriptions.specs.Subs.{Subscribed, Subscription}
+use Rattle.subscriptions.specs.Subs.{Subscribed, LiveSubscription}
 use Rattle.bus_tables.specs.Inside.{still, frame, IsPlaced, ArePlaced}
 use Rattle.bus_tables.proofs.EndingsLists.{find_within}
 use Rattle.bus_tables.proofs.OffersSubs.{all_still}
@@ -25,7 +25,7 @@ pub placed_more : (places : List (ℕ × ℕ)) (pair : ℕ × ℕ) (subs : Subsc
 placed_more places pair subs placed =
     All-weaker (IsPlaced places) (IsPlaced (places ++ pair ∷ [])) (λ s is. further places s is) subs.live placed
   where
-    further : (xs : List (ℕ × ℕ)) (s : Subscription) → place_of xs s.pipe ≡ Some s.place → place_of (xs ++ pair ∷ []) s.pipe ≡ Some s.place
+    further : (xs : List (ℕ × ℕ)) (s : LiveSubscription) → place_of xs s.pipe ≡ Some s.place → place_of (xs ++ pair ∷ []) s.pipe ≡ Some s.place
     further [] s is = absurd (cc (is))
     further (x ∷ xs) s is = by_test (eqb x.0 s.pipe) is (further xs s)
       where
@@ -36,7 +36,7 @@ placed_more places pair subs placed =
         by_test false here ih = ih here
 
 -- where a subscription leaves
-pub placed_left : (places : List (ℕ × ℕ)) (subs : Subscribed) (stays : Subscription → Bool) → ArePlaced places subs → ArePlaced places (record subs { live = filter stays subs.live })
+pub placed_left : (places : List (ℕ × ℕ)) (subs : Subscribed) (stays : LiveSubscription → Bool) → ArePlaced places subs → ArePlaced places (record subs { live = filter stays subs.live })
 placed_left places subs stays placed = All-filter stays (IsPlaced places) subs.live placed
 
 -- where a pipe leaves with its subscriptions
@@ -45,13 +45,13 @@ pub placed_removed : (places : List (ℕ × ℕ)) (subs : Subscribed) (number : 
 placed_removed places subs number placed = λ k d within.
     apart (get_or (filter others subs.live) k d) (filter_passes others subs.live k d within) (placed_left places subs others placed k d within)
   where
-    others : Subscription → Bool
+    others : LiveSubscription → Bool
     others s = not (eqb s.pipe number)
 
     other : (m p n : ℕ) → not (eqb p n) ≡ true → eqb m p ≡ true → not (eqb m n) ≡ true
     other m p n differs same = subst (λ k. not (eqb k n) ≡ true) (sym (eqb-true m p same)) differs
 
-    apart : (s : Subscription) → not (eqb s.pipe number) ≡ true → IsPlaced places s → IsPlaced (without_place number places) s
+    apart : (s : LiveSubscription) → not (eqb s.pipe number) ≡ true → IsPlaced places s → IsPlaced (without_place number places) s
     apart s differs is =
         ap (option_map (λ (p : ℕ × ℕ). p.1)) (find_within (λ (p : ℕ × ℕ). eqb p.0 s.pipe) (λ p. not (eqb p.0 number)) (λ p same. other p.0 s.pipe number differs same) places)
         ∙ is

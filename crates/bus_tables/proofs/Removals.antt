@@ -29,7 +29,7 @@ queued_removed rows subscribed number queued = record {
     few : AreQueued rows left
     few = queued_left rows subscribed (λ s. not (eqb s.pipe number)) queued
 
-    recount : (s : subs.Subscription) → not (eqb s.pipe number) ≡ true → IsCounted rows s → IsCounted (without_pipe number rows) s
+    recount : (s : subs.LiveSubscription) → not (eqb s.pipe number) ≡ true → IsCounted rows s → IsCounted (without_pipe number rows) s
     recount s apart counted =
         ap (option_map (λ row. waiting_at row s.number))
         (find_within (λ row. eqb row.number s.pipe) (λ row. not (eqb row.number number)) (λ row same. other_number row.number s.pipe number apart same) rows)

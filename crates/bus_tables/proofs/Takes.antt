@@ -8,7 +8,7 @@ use Rattle.std.proofs.lemmas.List.Sums.{sum_by-cons}
 use Rattle.pipe_queue.specs.declared.item.Item.{Item}
 use Rattle.pipe_table.specs.Table.{Pipes}
 use Rattle.subscriptions.specs.declared.words.SubNo.{SubNo}
-use Rattle.subscriptions.specs.Subs.{Subscribed, Subscription, goes_by, live_at, one_fewer, with_change}
+use Rattle.subscriptions.specs.Subs.{Subscribed, LiveSubscription, goes_by, live_at, one_fewer, with_change}
 use Rattle.routing.specs.Routing.{Routing}
 use Rattle.bus_tables.specs.declared.tables.BusTables.TheInside.{Inside}
 use Rattle.bus_words.specs.Pipes.{with_pipe, after_receive, without_front, oldest, PipeOf, pipe_at, oldest_on}
@@ -34,7 +34,7 @@ tables_after old pipes before subs routing rows framed same seen =
     ∙ ap (λ l. let t : Tables = record (tables_in old before routing) { pipes = map row_in pipes.live; subscriptions = l } in t) (sym (bare subs.live) ∙ ap (map sub_in) (live_still before subs same) ∙ bare before.live)
     ∙ ap (λ l. let t : Tables = record (tables_in old before routing) { pipes = l } in t) seen
   where
-    bare : (live : List Subscription) → map sub_in (map uncounted live) ≡ map sub_in live
+    bare : (live : List LiveSubscription) → map sub_in (map uncounted live) ≡ map sub_in live
     bare [] = refl
     bare (s ∷ live) = ap (λ l. sub_in s ∷ l) (bare live)
 
@@ -142,7 +142,7 @@ module _ (f : PipeOf Item → PipeOf Item) (front : TakesFront f) (rows : List (
         row_there.2
 
     -- its subscription's count
-    own_count : (t : Subscription) → IsCounted rows t → IsOf number item t → t.number ≡ item.sub.number → 1 + waiting_at (f row) t.number ≡ t.waiting
+    own_count : (t : LiveSubscription) → IsCounted rows t → IsOf number item t → t.number ≡ item.sub.number → 1 + waiting_at (f row) t.number ≡ t.waiting
     own_count t is own mine =
         let counted : ◌≡◌ {A = Option ℕ} (Some (waiting_at row t.number)) (Some t.waiting) =
         ap (option_map (λ r. waiting_at r t.number)) (sym row_there.1) ∙ ap (λ n. option_map (λ r. waiting_at r t.number) (pipe_at rows n)) (sym (own mine).1) ∙ is in
@@ -153,7 +153,7 @@ module _ (f : PipeOf Item → PipeOf Item) (front : TakesFront f) (rows : List (
         ∙ waits
 
     -- at least one waits
-    pub one_waits : (s : Subscription) → live_at subs item.sub ≡ Some s → 1 ≤ s.waiting
+    pub one_waits : (s : LiveSubscription) → live_at subs item.sub ≡ Some s → 1 ≤ s.waiting
     one_waits s live =
         omega (
           arith,
@@ -161,8 +161,8 @@ module _ (f : PipeOf Item → PipeOf Item) (front : TakesFront f) (rows : List (
               (goes_by_parts item.sub s (found_passes (goes_by item.sub) subs.live s live)).1,
         )
 
-    counted : (t : Subscription) → IsCounted rows t → IsOf number item t → (b : Bool) → goes_by item.sub t ≡ b →
-        IsCounted (with_pipe f number rows) (cond {A = Subscription} b (one_fewer t) t)
+    counted : (t : LiveSubscription) → IsCounted rows t → IsOf number item t → (b : Bool) → goes_by item.sub t ≡ b →
+        IsCounted (with_pipe f number rows) (cond {A = LiveSubscription} b (one_fewer t) t)
     counted t is own true here =
         let mine = (goes_by_parts item.sub t here).1 in
         let w : PipeOf Item → ℕ = λ r. waiting_at r t.number in
@@ -190,8 +190,8 @@ module _ (f : PipeOf Item → PipeOf Item) (front : TakesFront f) (rows : List (
     pub one_taken : AreQueued (with_pipe f number rows) (with_change subs item.sub one_fewer)
     one_taken = record {
       counted =
-          All-map (IsCounted (with_pipe f number rows)) (λ t. cond {A = Subscription} (goes_by item.sub t) (one_fewer t) t) subs.live
-          (all_both (IsCounted rows) (IsOf number item) (λ t. IsCounted (with_pipe f number rows) (cond {A = Subscription} (goes_by item.sub t) (one_fewer t) t))
+          All-map (IsCounted (with_pipe f number rows)) (λ t. cond {A = LiveSubscription} (goes_by item.sub t) (one_fewer t) t) subs.live
+          (all_both (IsCounted rows) (IsOf number item) (λ t. IsCounted (with_pipe f number rows) (cond {A = LiveSubscription} (goes_by item.sub t) (one_fewer t) t))
           (λ t is own. counted t is own (goes_by item.sub t) refl) subs.live queued.counted its.own);
       items = items (with_change subs item.sub one_fewer) (still-with_change subs item.sub one_fewer (λ t. refl));
     }
@@ -209,46 +209,46 @@ module _ (f : PipeOf Item → PipeOf Item) (front : TakesFront f) (rows : List (
   queued_if (Some item) is = one_taken item is
 
 -- a live subscription stays, with as many of its messages waiting, or one fewer
-pub live_fewer : (subs : Subscribed) (sub : SubNo) (s : Subscription) (item : Option Item) → live_at subs sub ≡ Some s →
-    (t : Subscription) × (live_at (fewer_by item subs) sub ≡ Some t) × (t.waiting ≤ s.waiting) × (t.pipe ≡ s.pipe)
+pub live_fewer : (subs : Subscribed) (sub : SubNo) (s : LiveSubscription) (item : Option Item) → live_at subs sub ≡ Some s →
+    (t : LiveSubscription) × (live_at (fewer_by item subs) sub ≡ Some t) × (t.waiting ≤ s.waiting) × (t.pipe ≡ s.pipe)
 live_fewer subs sub s None live = (s, live, omega arith, refl)
 live_fewer subs sub s (Some item) live = by_list subs.live live
   where
-    then : Subscription → Subscription
-    then t = cond {A = Subscription} (goes_by item.sub t) (one_fewer t) t
+    then : LiveSubscription → LiveSubscription
+    then t = cond {A = LiveSubscription} (goes_by item.sub t) (one_fewer t) t
 
-    by_test : (t : Subscription) (b : Bool) → goes_by sub (cond {A = Subscription} b (one_fewer t) t) ≡ goes_by sub t
+    by_test : (t : LiveSubscription) (b : Bool) → goes_by sub (cond {A = LiveSubscription} b (one_fewer t) t) ≡ goes_by sub t
     by_test t true = refl
     by_test t false = refl
 
-    fewer_waits : (t : Subscription) (b : Bool) → (cond {A = Subscription} b (one_fewer t) t).waiting ≤ t.waiting
+    fewer_waits : (t : LiveSubscription) (b : Bool) → (cond {A = LiveSubscription} b (one_fewer t) t).waiting ≤ t.waiting
     fewer_waits t true = omega arith
     fewer_waits t false = omega arith
 
-    same_pipe : (t : Subscription) (b : Bool) → (cond {A = Subscription} b (one_fewer t) t).pipe ≡ t.pipe
+    same_pipe : (t : LiveSubscription) (b : Bool) → (cond {A = LiveSubscription} b (one_fewer t) t).pipe ≡ t.pipe
     same_pipe t true = refl
     same_pipe t false = refl
 
-    by_list : (live : List Subscription) → find (goes_by sub) live ≡ Some s →
-        (t : Subscription) × (find (goes_by sub) (map then live) ≡ Some t) × (t.waiting ≤ s.waiting) × (t.pipe ≡ s.pipe)
+    by_list : (live : List LiveSubscription) → find (goes_by sub) live ≡ Some s →
+        (t : LiveSubscription) × (find (goes_by sub) (map then live) ≡ Some t) × (t.waiting ≤ s.waiting) × (t.pipe ≡ s.pipe)
     by_list [] none = absurd (cc (none))
     by_list (x ∷ live) some = by_first (goes_by sub x) refl some (λ rest. by_list live rest)
       where
-        by_first : (b : Bool) → goes_by sub x ≡ b → cond {A = Option Subscription} b (Some x) (find (goes_by sub) live) ≡ Some s →
-            (find (goes_by sub) live ≡ Some s → (t : Subscription) × (find (goes_by sub) (map then live) ≡ Some t) × (t.waiting ≤ s.waiting) × (t.pipe ≡ s.pipe)) →
-            (t : Subscription) × (cond {A = Option Subscription} (goes_by sub (then x)) (Some (then x)) (find (goes_by sub) (map then live)) ≡ Some t) × (t.waiting ≤ s.waiting) × (t.pipe ≡ s.pipe)
+        by_first : (b : Bool) → goes_by sub x ≡ b → cond {A = Option LiveSubscription} b (Some x) (find (goes_by sub) live) ≡ Some s →
+            (find (goes_by sub) live ≡ Some s → (t : LiveSubscription) × (find (goes_by sub) (map then live) ≡ Some t) × (t.waiting ≤ s.waiting) × (t.pipe ≡ s.pipe)) →
+            (t : LiveSubscription) × (cond {A = Option LiveSubscription} (goes_by sub (then x)) (Some (then x)) (find (goes_by sub) (map then live)) ≡ Some t) × (t.waiting ≤ s.waiting) × (t.pipe ≡ s.pipe)
         by_first true here is later =
             let it : x ≡ s = cc (is) in
-            subst (λ (y : Subscription). (t : Subscription) × (cond {A = Option Subscription} (goes_by sub (then x)) (Some (then x)) (find (goes_by sub) (map then live)) ≡ Some t) × (t.waiting ≤ y.waiting) × (t.pipe ≡ y.pipe)) it (
+            subst (λ (y : LiveSubscription). (t : LiveSubscription) × (cond {A = Option LiveSubscription} (goes_by sub (then x)) (Some (then x)) (find (goes_by sub) (map then live)) ≡ Some t) × (t.waiting ≤ y.waiting) × (t.pipe ≡ y.pipe)) it (
               then x,
-              ap (λ b. cond {A = Option Subscription} b (Some (then x)) (find (goes_by sub) (map then live))) (by_test x (goes_by item.sub x) ∙ here),
+              ap (λ b. cond {A = Option LiveSubscription} b (Some (then x)) (find (goes_by sub) (map then live))) (by_test x (goes_by item.sub x) ∙ here),
               fewer_waits x (goes_by item.sub x),
               same_pipe x (goes_by item.sub x),
             )
         by_first false here is later =
             let rest = later is in (
               rest.0,
-              ap (λ b. cond {A = Option Subscription} b (Some (then x)) (find (goes_by sub) (map then live))) (by_test x (goes_by item.sub x) ∙ here) ∙ rest.1,
+              ap (λ b. cond {A = Option LiveSubscription} b (Some (then x)) (find (goes_by sub) (map then live))) (by_test x (goes_by item.sub x) ∙ here) ∙ rest.1,
               rest.2,
               rest.3,
             )

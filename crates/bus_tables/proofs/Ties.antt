@@ -13,7 +13,7 @@ use Rattle.pipe_queue.specs.declared.item.Item.{Item}
 use Rattle.bus_words.specs.Pipes.{PipeOf}
 use Rattle.pipe_table.specs.Table.{Pipes}
 use Rattle.subscriptions.specs.declared.words.SubNo.{SubNo}
-use Rattle.subscriptions.specs.Subs.{Subscription, Subscribed, number_of, goes_by, live_at, without, IsRising}
+use Rattle.subscriptions.specs.Subs.{LiveSubscription, Subscribed, number_of, goes_by, live_at, without, IsRising}
 use Rattle.routing.specs.Routing.{Routing, dests_at, route_of}
 use Rattle.bus_tables.specs.Rows.{Row}
 use Rattle.bus_tables.specs.Tables.{Tables}
@@ -57,19 +57,19 @@ no_dests subs routing id routed none =
     (All-weaker (λ s. is_some (route_of routing.routes s.id) ≡ true) (λ s. eqb s.id id ≡ false) (λ s way. other s way (eqb s.id id) refl) subs.live routed.ways)))
     ∙ sym (route_seen subs id)
   where
-    other : (s : Subscription) → is_some (route_of routing.routes s.id) ≡ true → (b : Bool) → eqb s.id id ≡ b → b ≡ false
+    other : (s : LiveSubscription) → is_some (route_of routing.routes s.id) ≡ true → (b : Bool) → eqb s.id id ≡ b → b ≡ false
     other s way true e = absurd (not_none (route_of routing.routes s.id) way (ap (route_of routing.routes) (eqb-true s.id id e) ∙ none))
     other s way false e = refl
 
 -- The one that ties. --
 
 -- the live subscription whose number was found
-pub tied_one : (o : Option Subscription) (sub : SubNo) → option_map number_of o ≡ Some sub → (s : Subscription) × (o ≡ Some s) × (number_of s ≡ sub)
+pub tied_one : (o : Option LiveSubscription) (sub : SubNo) → option_map number_of o ≡ Some sub → (s : LiveSubscription) × (o ≡ Some s) × (number_of s ≡ sub)
 tied_one None sub is = absurd cc
 tied_one (Some s) sub is = let same : number_of s ≡ sub = cc in (s, refl, same)
 
 -- what is found is found by its number too
-pub found_by_number : (p : Subscription → Bool) (below : ℕ) (live : List Subscription) (s : Subscription) → IsRising below live → find p live ≡ Some s → find (goes_by (number_of s)) live ≡ Some s
+pub found_by_number : (p : LiveSubscription → Bool) (below : ℕ) (live : List LiveSubscription) (s : LiveSubscription) → IsRising below live → find p live ≡ Some s → find (goes_by (number_of s)) live ≡ Some s
 found_by_number p below [] s rising found = absurd cc
 found_by_number p below (t ∷ live) s rising found = choose (found_by_number p t.number live s rising.1) (p t) found
   where
@@ -83,28 +83,28 @@ found_by_number p below (t ∷ live) s rising found = choose (found_by_number p 
     less_apart : t.number < s.number → eqb t.number s.number ≡ false
     less_apart above = grind (arith, nat_tests)
 
-    choose : (find p live ≡ Some s → find (goes_by (number_of s)) live ≡ Some s) → (b : Bool) → cond {A = Option Subscription} b (Some t) (find p live) ≡ Some s →
-        cond {A = Option Subscription} (goes_by (number_of s) t) (Some t) (find (goes_by (number_of s)) live) ≡ Some s
+    choose : (find p live ≡ Some s → find (goes_by (number_of s)) live ≡ Some s) → (b : Bool) → cond {A = Option LiveSubscription} b (Some t) (find p live) ≡ Some s →
+        cond {A = Option LiveSubscription} (goes_by (number_of s) t) (Some t) (find (goes_by (number_of s)) live) ≡ Some s
     choose rest true found =
         let same : t ≡ s = cc in
-        ap (λ u. cond {A = Option Subscription} (goes_by (number_of u) t) (Some t) (find (goes_by (number_of s)) live)) (sym same)
-        ∙ ap (λ b. cond {A = Option Subscription} b (Some t) (find (goes_by (number_of s)) live)) own
+        ap (λ u. cond {A = Option LiveSubscription} (goes_by (number_of u) t) (Some t) (find (goes_by (number_of s)) live)) (sym same)
+        ∙ ap (λ b. cond {A = Option LiveSubscription} b (Some t) (find (goes_by (number_of s)) live)) own
         ∙ ap (λ u. Some u) same
     choose rest false found =
         let above : t.number < s.number = found_all p (λ u. t.number < u.number) live s (rising_above t.number live rising.1) found in
-        ap (λ b. cond {A = Option Subscription} b (Some t) (find (goes_by (number_of s)) live)) (ap (λ b. eqb t.slot s.slot && b) (less_apart above) ∙ and_false (eqb t.slot s.slot))
+        ap (λ b. cond {A = Option LiveSubscription} b (Some t) (find (goes_by (number_of s)) live)) (ap (λ b. eqb t.slot s.slot && b) (less_apart above) ∙ and_false (eqb t.slot s.slot))
         ∙ rest found
 
 -- the one that ties is live under its number
-pub tied_live : (subs : Subscribed) (id pipe : ℕ) (sub : SubNo) (s : Subscription) → IsRising 0 subs.live → find (ties id pipe) subs.live ≡ Some s → number_of s ≡ sub → live_at subs sub ≡ Some s
+pub tied_live : (subs : Subscribed) (id pipe : ℕ) (sub : SubNo) (s : LiveSubscription) → IsRising 0 subs.live → find (ties id pipe) subs.live ≡ Some s → number_of s ≡ sub → live_at subs sub ≡ Some s
 tied_live subs id pipe sub s rising found is = subst (λ n. live_at subs n ≡ Some s) is (found_by_number (ties id pipe) 0 subs.live s rising found)
 
 -- what ties an id is of it
-pub tied_id : (id pipe : ℕ) (s : Subscription) → ties id pipe s ≡ true → s.id ≡ id
+pub tied_id : (id pipe : ℕ) (s : LiveSubscription) → ties id pipe s ≡ true → s.id ≡ id
 tied_id id pipe s tie = eqb-true s.id id (and_left (eqb s.id id) (eqb s.pipe pipe) tie)
 
 -- the end of the one that ties leaves those that don't
-pub without_tied : (subs : Subscribed) (id pipe : ℕ) (sub : SubNo) (s : Subscription) → IsRising 0 subs.live → find (ties id pipe) subs.live ≡ Some s → live_at subs sub ≡ Some s →
+pub without_tied : (subs : Subscribed) (id pipe : ℕ) (sub : SubNo) (s : LiveSubscription) → IsRising 0 subs.live → find (ties id pipe) subs.live ≡ Some s → live_at subs sub ≡ Some s →
     count_by (ties id pipe) subs.live ≤ 1 → map sub_in (without subs sub).live ≡ filter (λ t. not (eqb t.id id && eqb t.pipe pipe)) (map sub_in subs.live)
 without_tied subs id pipe sub s rising found live few =
     ap (map sub_in)
@@ -118,7 +118,7 @@ without_tied subs id pipe sub s rising found live few =
     by_tie : All (λ t. ties id pipe t ≡ true → t ≡ s) subs.live
     by_tie = found_only (ties id pipe) subs.live s found few
 
-    same : (t : Subscription) → (t.number ≡ sub.number → t ≡ s) → (ties id pipe t ≡ true → t ≡ s) → (a b : Bool) → eqb t.number sub.number ≡ a → ties id pipe t ≡ b → not a ≡ not b
+    same : (t : LiveSubscription) → (t.number ≡ sub.number → t ≡ s) → (ties id pipe t ≡ true → t ≡ s) → (a b : Bool) → eqb t.number sub.number ≡ a → ties id pipe t ≡ b → not a ≡ not b
     same t number tie true true e f = refl
     same t number tie false false e f = refl
     same t number tie true false e f =
@@ -135,14 +135,14 @@ none_tied subs id pipe none =
     (not_found (ties id pipe) subs.live (no_number (find (ties id pipe) subs.live) none)))))
     ∙ sym (filter-map (λ t. not (eqb t.id id && eqb t.pipe pipe)) sub_in subs.live)
   where
-    no_number : (o : Option Subscription) → option_map number_of o ≡ None → o ≡ None
+    no_number : (o : Option LiveSubscription) → option_map number_of o ≡ None → o ≡ None
     no_number None is = refl
     no_number (Some t) is = absurd cc
 
 -- Messages that wait. --
 
 -- what waits stays counted where subscriptions leave
-pub queued_left : (rows : List (PipeOf Item)) (subs : Subscribed) (stays : Subscription → Bool) → AreQueued rows subs → AreQueued rows (record subs { live = filter stays subs.live })
+pub queued_left : (rows : List (PipeOf Item)) (subs : Subscribed) (stays : LiveSubscription → Bool) → AreQueued rows subs → AreQueued rows (record subs { live = filter stays subs.live })
 queued_left rows subs stays queued = record {
   counted = All-filter stays (IsCounted rows) subs.live queued.counted;
   items =
@@ -157,7 +157,7 @@ queued_left rows subs stays queued = record {
 -- What the tables stand for. --
 
 -- what they stand for once pipes and subscriptions have left, and routes have changed in their destinations alone
-pub seen_left : (pipes some : Pipes) (subs few : Subscribed) (routing next : Routing) (now : Tables) (rows : List Row) (left : List bus.Subscription) → tables_in pipes subs routing ≡ now →
+pub seen_left : (pipes some : Pipes) (subs few : Subscribed) (routing next : Routing) (now : Tables) (rows : List Row) (left : List bus.LiveSubscription) → tables_in pipes subs routing ≡ now →
     some ≡ record pipes { live = some.live; places = some.places } → map row_in some.live ≡ rows →
     few ≡ record subs { live = few.live } → map sub_in few.live ≡ left →
     next ≡ record routing { routes = next.routes } → ways_of next ≡ ways_of routing →

@@ -22,7 +22,7 @@ item_in item = record { number = item.number; desc = item.desc; subscription = i
 abbrev pub row_in : PipeOf Item → Row
 row_in pipe = pipe_by item_in pipe
 
-abbrev pub sub_in : subs.Subscription → Subscription
+abbrev pub sub_in : subs.LiveSubscription → Subscription
 sub_in s = record { number = s.number; id = s.id; pipe = s.pipe; limit = s.limit; scope = s.scope }
 
 abbrev pub way_in : Route → RouteRow
@@ -51,12 +51,12 @@ abbrev pub waiting_at : PipeOf Item → ℕ → ℕ
 waiting_at row number = waiting_of (λ item. item.sub.number) row number
 
 -- a subscription's pipe is live, and as many of its messages wait there as it counts
-abbrev pub IsCounted : List (PipeOf Item) → subs.Subscription → Type 0
+abbrev pub IsCounted : List (PipeOf Item) → subs.LiveSubscription → Type 0
 IsCounted rows s =
     option_map (λ row. waiting_at row s.number) (pipe_at rows s.pipe) ≡ Some s.waiting
 
 -- a subscription is the item's, where it has the item's number: in that slot, and of this pipe
-abbrev pub IsOf : ℕ → Item → subs.Subscription → Type 0
+abbrev pub IsOf : ℕ → Item → subs.LiveSubscription → Type 0
 IsOf pipe item s = s.number ≡ item.sub.number → (s.slot ≡ item.sub.slot) × (s.pipe ≡ pipe)
 
 -- an item on a pipe is of a subscription that was made, and where that one lives it is the pipe's
@@ -70,7 +70,7 @@ pub record AreQueued (rows : List (PipeOf Item)) (subscribed : subs.Subscribed) 
   pub items : All (λ row. All (IsQueued subscribed row.number) row.queue) rows
 
 -- a subscription knows where its pipe lies
-abbrev pub IsPlaced : List (ℕ × ℕ) → subs.Subscription → Type 0
+abbrev pub IsPlaced : List (ℕ × ℕ) → subs.LiveSubscription → Type 0
 IsPlaced places s = place_of places s.pipe ≡ Some s.place
 
 -- each pipe lies where its subscriptions say
@@ -80,7 +80,7 @@ ArePlaced places subscribed = All (IsPlaced places) subscribed.live
 -- Subscriptions and routes. --
 
 -- whether a live subscription ties this id to this pipe
-abbrev pub ties : ℕ → ℕ → subs.Subscription → Bool
+abbrev pub ties : ℕ → ℕ → subs.LiveSubscription → Bool
 ties id pipe s = s.id == id && s.pipe == pipe
 
 -- the first live subscription that ties this id to this pipe
@@ -88,7 +88,7 @@ abbrev pub first_of : subs.Subscribed → ℕ → ℕ → Option SubNo
 first_of subscribed id pipe = option_map subs.number_of (find (ties id pipe) subscribed.live)
 
 -- the live subscriptions of an id, in order of number
-abbrev pub of_id : ℕ → subs.Subscribed → List subs.Subscription
+abbrev pub of_id : ℕ → subs.Subscribed → List subs.LiveSubscription
 of_id id subscribed = filter (λ s. s.id == id) subscribed.live
 
 -- each id's destinations are its live subscriptions, each live one has a route, and no two tie the
@@ -110,7 +110,7 @@ pub record AreTied (pipes : Pipes) (subscribed : subs.Subscribed) (routing : Rou
 -- What a change leaves. --
 
 -- a subscription but for how many of its messages wait
-abbrev pub uncounted : subs.Subscription → subs.Subscription
+abbrev pub uncounted : subs.LiveSubscription → subs.LiveSubscription
 uncounted s = record s { waiting = 0 }
 
 -- the subscriptions but for how many of their messages wait

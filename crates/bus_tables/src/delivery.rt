@@ -120,7 +120,7 @@ fn offer(
         number: message.number,
         sub,
     };
-    let is_over = row.verdict() == subscriptions::Verdict::OverLimit;
+    let is_over = row.admission() == subscriptions::Admission::OverLimit;
     // The pipe's number is read again where it misses the message, so it isn't kept where it
     // doesn't.
     let offered = pipes.offer(pipe, message.sender, is_over, item);

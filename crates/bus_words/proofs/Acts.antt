@@ -14,7 +14,6 @@ use Rattle.fsw_base.specs.Limits.{Limits}
 use Rattle.fsw_base.specs.Starts.{start_of}
 use Rattle.housekeeping.specs.Packet.{housekeeping_id}
 use Rattle.housekeeping.proofs.PacketLemmas.{message_id-housekeeping_packet}
-use Rattle.bus_events.specs.declared.event.ServiceEvent.{ServiceEvent}
 use Rattle.bus_words.specs.declared.calls.BusAnswer.{BusAnswer}
 use Rattle.bus_words.specs.declared.calls.BusAnswer.TheVariants.{Done, Sent}
 use Rattle.bus_words.specs.declared.history.Call.{Call}
@@ -23,8 +22,6 @@ use Rattle.bus_words.specs.declared.history.Entry.{Entry}
 use Rattle.bus_words.specs.Bus.{Subscription, State, Sending, Active, Waiting, opening, with_standing, is_empty, others_idle, route, is_subscribed, has_route, reached, unsent_size, deliver}
 use Rattle.bus_words.specs.Refusals.{Refusal, OfBus, OfPools, OfEvents, refusal_answer}
 use Rattle.bus_words.specs.Held.{in_use}
-use Rattle.bus_words.specs.Events.{unless_refused, send_events, sent_events, call_events, desk_by}
-use Rattle.bus_words.specs.Counters.{statistics_by}
 use Rattle.bus_words.specs.Machine.{Reads, sending_from, packet_in, recorded, reads_after, counts_for, next_count, stamped, front_of, delivered, sent_along, transmitted, buffer_gone, passed_along, buffer_transmitted, received, refused_state, accept, accept_with, decided, decided_with, cause, step, step_with, state_from, state_after, LegalFrom, IsLegal}
 use Rattle.bus_words.specs.Acts.{NextCount, Whole, AreAlike, reads_in, next_in, has_next, moved_on, first_next, nexts_after, completed, act, whole_from, whole_after, nexts_of, whole_of}
 use Rattle.bus_words.proofs.Finds.{Each, Each-push, Each-drop, Each-filter, any-push, any-map, same-self, same-sym}
@@ -169,73 +166,10 @@ accepts_alike reads other limits s app End same ways = refl
 pub id-packet : (limits : Limits) (s : State) → message_id (packet_in limits s) ≡ housekeeping_id
 id-packet limits s = message_id-housekeeping_packet s.statistics.counts (in_use limits s)
 
--- what the bus tells of a send is the same
-told_alike : (reads other : Reads) (s : State) (id app number asked : ℕ) (bytes : List ℕ) (inc : Bool) → AreAlike reads other s → HaveWays s → message_id bytes ≡ id →
-    sent_events s id (record { sender = app; number = number; asked = asked; message = stamped reads bytes inc })
-    ≡ sent_events s id (record { sender = app; number = number; asked = asked; message = stamped other bytes inc })
-told_alike reads other s id app number asked bytes inc same ways named = by_route (route s.subscriptions id) refl
-  where
-    stamp : (counts : Bool) → has_route s.routed id ≡ true → stamped reads bytes counts ≡ stamped other bytes counts
-    stamp true there = ap (with_count bytes) (same.next (message_id bytes) (ap (has_route s.routed) named ∙ there))
-    stamp false there = refl
-
-    by_route : (subs : List Subscription) → route s.subscriptions id ≡ subs →
-        send_events id (record { sender = app; number = number; asked = asked; message = stamped reads bytes inc }) subs s.pipes
-        ≡ send_events id (record { sender = app; number = number; asked = asked; message = stamped other bytes inc }) subs s.pipes
-    by_route [] is = refl
-    by_route (first ∷ more) is =
-        ap (λ m. send_events id (record { sender = app; number = number; asked = asked; message = m }) (first ∷ more) s.pipes)
-        (stamp inc (way_of s.routed id s.subscriptions first more ways is))
-
--- and so is what it tells of each call
-events_alike : (reads other : Reads) (limits : Limits) (s : State) (app : ℕ) (call : Call) (answer : BusAnswer) → AreAlike reads other s → HaveWays s →
-    call_events limits reads s app call answer ≡ call_events limits other s app call answer
-unfolding call_events
-events_alike reads other limits s app (Create depth name) answer same ways = refl
-events_alike reads other limits s app (Delete pipe) answer same ways = refl
-events_alike reads other limits s app (SetOpts pipe bits) answer same ways = refl
-events_alike reads other limits s app (GetOpts pipe) answer same ways = refl
-events_alike reads other limits s app (Find name) answer same ways = refl
-events_alike reads other limits s app (PipeName pipe) answer same ways = refl
-events_alike reads other limits s app (Subscribe id pipe limit scope) answer same ways = refl
-events_alike reads other limits s app (Unsubscribe id pipe) answer same ways = refl
-events_alike reads other limits s app (Transmit bytes inc) answer same ways =
-    ap (unless_refused answer) (told_alike reads other s (message_id bytes) app (s.numbers_given + 1) (length bytes) bytes inc same ways refl)
-events_alike reads other limits s app (Receive pipe) answer same ways = refl
-events_alike reads other limits s app (Pend pipe) answer same ways = refl
-events_alike reads other limits s app (Look pipe) answer same ways = refl
-events_alike reads other limits s app (Allocate size) answer same ways = refl
-events_alike reads other limits s app (TransmitBuffer buf bytes inc) answer same ways =
-    ap (unless_refused answer) (told_alike reads other s (message_id bytes) app buf (unsent_size s.unsent app buf) (front_of bytes) inc same ways (id-front bytes))
-events_alike reads other limits s app (Release buf) answer same ways = refl
-events_alike reads other limits s app (PoolCreate bytes) answer same ways = refl
-events_alike reads other limits s app (PoolGet pool size) answer same ways = refl
-events_alike reads other limits s app (PoolPut pool grant) answer same ways = refl
-events_alike reads other limits s app (PoolFigures pool) answer same ways = refl
-events_alike reads other limits s app (Register filters) answer same ways = refl
-events_alike reads other limits s app (SendEvent id kind text) answer same ways = refl
-events_alike reads other limits s app (ResetFilter id) answer same ways = refl
-events_alike reads other limits s app (LogMode mode) answer same ways = refl
-events_alike reads other limits s app ClearLog answer same ways = refl
-events_alike reads other limits s app Housekeeping answer same ways =
-    ap (unless_refused answer)
-    (told_alike reads other s housekeeping_id app (s.numbers_given + 1) (length (packet_in limits s)) (packet_in limits s) true same ways (id-packet limits s))
-events_alike reads other limits s app Figures answer same ways = refl
-events_alike reads other limits s app End answer same ways = refl
-
--- so what is told and counted is the same
-recorded_alike : (reads other : Reads) (limits : Limits) (s : State) (app : ℕ) (call : Call) (made : BusAnswer × State) → AreAlike reads other s → HaveWays s →
-    recorded reads limits s app call made ≡ recorded other limits s app call made
-recorded_alike reads other limits s app call made same ways =
-    ap (λ (events : List ServiceEvent).
-    (made.0, record made.1 { events = desk_by s.events app call events; statistics = statistics_by s.statistics call made.0 events (in_use limits made.1) }))
-    (events_alike reads other limits s app call made.0 same ways)
-
 pub steps_alike : (reads other : Reads) (limits : Limits) (s : State) (app : ℕ) (call : Call) → AreAlike reads other s → HaveWays s →
     step_with reads limits s app call ≡ step_with other limits s app call
 steps_alike reads other limits s app call same ways =
-    ap (recorded reads limits s app call) (by_cause (cause limits s app call))
-    ∙ recorded_alike reads other limits s app call (decided_with other limits s app call (cause limits s app call)) same ways
+    ap (recorded limits s app call) (by_cause (cause limits s app call))
   where
     by_cause : (why : Option Refusal) → decided_with reads limits s app call why ≡ decided_with other limits s app call why
     by_cause (Some why) = refl

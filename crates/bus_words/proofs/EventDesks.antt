@@ -11,17 +11,17 @@ use Rattle.bus_words.specs.Bus.{State, opening}
 use Rattle.bus_words.specs.Held.{in_use}
 use Rattle.bus_words.specs.Events.{call_events, desk_by, desk_then}
 use Rattle.bus_words.specs.Counters.{statistics_by}
-use Rattle.bus_words.specs.Machine.{Reads, recorded, reads_after, step, state_from, state_after, LegalFrom, IsLegal, moments_from, desk_after}
+use Rattle.bus_words.specs.Machine.{recorded, step, state_from, state_after, LegalFrom, IsLegal, moments_from, desk_after}
 
 -- The history's desk. --
 
 desk_from : (limits : Limits) (history : List Entry) (s : State) (es : List Entry) → LegalFrom limits history s es →
-    (state_from limits history s es).events ≡ fold (desk_then limits) s.events (moments_from limits history s es)
+    (state_from limits history s es).events ≡ fold desk_then s.events (moments_from limits history s es)
 desk_from limits history s [] legal = refl
 desk_from limits history s (e ∷ es) legal =
     let next = (step limits history s e.app e.call).1 in
     desk_from limits (history ++ e ∷ []) next es legal.4
-    ∙ ap (λ (a : BusAnswer). fold (desk_then limits) (desk_by s.events e.app e.call (call_events limits (reads_after limits history) s e.app e.call a)) (moments_from limits (history ++ e ∷ []) next es))
+    ∙ ap (λ (a : BusAnswer). fold desk_then (desk_by s.events e.app e.call (call_events s e.app e.call a)) (moments_from limits (history ++ e ∷ []) next es))
     (sym legal.1)
 
 -- after every legal history
@@ -62,35 +62,35 @@ is_quiet Figures = true
 is_quiet End = true
 
 -- of these it tells nothing
-pub quiet_events : (limits : Limits) (reads : Reads) (s : State) (app : ℕ) (call : Call) (answer : BusAnswer) → IsTrue (is_quiet call) → call_events limits reads s app call answer ≡ []
+pub quiet_events : (s : State) (app : ℕ) (call : Call) (answer : BusAnswer) → IsTrue (is_quiet call) → call_events s app call answer ≡ []
 unfolding call_events
-quiet_events limits reads s app (Create depth name) answer quiet = refl
-quiet_events limits reads s app (Delete pipe) answer quiet = refl
-quiet_events limits reads s app (SetOpts pipe bits) answer quiet = refl
-quiet_events limits reads s app (GetOpts pipe) answer quiet = refl
-quiet_events limits reads s app (Find name) answer quiet = refl
-quiet_events limits reads s app (PipeName pipe) answer quiet = refl
-quiet_events limits reads s app (Subscribe id pipe limit scope) answer quiet = absurd (true≢false (sym quiet))
-quiet_events limits reads s app (Unsubscribe id pipe) answer quiet = absurd (true≢false (sym quiet))
-quiet_events limits reads s app (Transmit bytes inc) answer quiet = absurd (true≢false (sym quiet))
-quiet_events limits reads s app (Receive pipe) answer quiet = refl
-quiet_events limits reads s app (Pend pipe) answer quiet = refl
-quiet_events limits reads s app (Look pipe) answer quiet = refl
-quiet_events limits reads s app (Allocate size) answer quiet = refl
-quiet_events limits reads s app (TransmitBuffer buf bytes inc) answer quiet = absurd (true≢false (sym quiet))
-quiet_events limits reads s app (Release buf) answer quiet = refl
-quiet_events limits reads s app (PoolCreate bytes) answer quiet = refl
-quiet_events limits reads s app (PoolGet pool size) answer quiet = refl
-quiet_events limits reads s app (PoolPut pool grant) answer quiet = refl
-quiet_events limits reads s app (PoolFigures pool) answer quiet = refl
-quiet_events limits reads s app (Register filters) answer quiet = refl
-quiet_events limits reads s app (SendEvent id kind text) answer quiet = refl
-quiet_events limits reads s app (ResetFilter id) answer quiet = refl
-quiet_events limits reads s app (LogMode mode) answer quiet = refl
-quiet_events limits reads s app ClearLog answer quiet = refl
-quiet_events limits reads s app Housekeeping answer quiet = absurd (true≢false (sym quiet))
-quiet_events limits reads s app Figures answer quiet = refl
-quiet_events limits reads s app End answer quiet = refl
+quiet_events s app (Create depth name) answer quiet = refl
+quiet_events s app (Delete pipe) answer quiet = refl
+quiet_events s app (SetOpts pipe bits) answer quiet = refl
+quiet_events s app (GetOpts pipe) answer quiet = refl
+quiet_events s app (Find name) answer quiet = refl
+quiet_events s app (PipeName pipe) answer quiet = refl
+quiet_events s app (Subscribe id pipe limit scope) answer quiet = absurd (true≢false (sym quiet))
+quiet_events s app (Unsubscribe id pipe) answer quiet = absurd (true≢false (sym quiet))
+quiet_events s app (Transmit bytes inc) answer quiet = absurd (true≢false (sym quiet))
+quiet_events s app (Receive pipe) answer quiet = refl
+quiet_events s app (Pend pipe) answer quiet = refl
+quiet_events s app (Look pipe) answer quiet = refl
+quiet_events s app (Allocate size) answer quiet = refl
+quiet_events s app (TransmitBuffer buf bytes inc) answer quiet = absurd (true≢false (sym quiet))
+quiet_events s app (Release buf) answer quiet = refl
+quiet_events s app (PoolCreate bytes) answer quiet = refl
+quiet_events s app (PoolGet pool size) answer quiet = refl
+quiet_events s app (PoolPut pool grant) answer quiet = refl
+quiet_events s app (PoolFigures pool) answer quiet = refl
+quiet_events s app (Register filters) answer quiet = refl
+quiet_events s app (SendEvent id kind text) answer quiet = refl
+quiet_events s app (ResetFilter id) answer quiet = refl
+quiet_events s app (LogMode mode) answer quiet = refl
+quiet_events s app ClearLog answer quiet = refl
+quiet_events s app Housekeeping answer quiet = absurd (true≢false (sym quiet))
+quiet_events s app Figures answer quiet = refl
+quiet_events s app End answer quiet = refl
 
 -- whether a call is neither one of the event services nor an end
 abbrev pub leaves_desk : Call → Bool
@@ -154,9 +154,9 @@ quiet_desk desk app Figures leaves = refl
 quiet_desk desk app End leaves = absurd (true≢false (sym leaves))
 
 -- what a call leaves of which the bus never tells and that leaves the desk: its refusal's counter, and the peaks
-pub recorded_quiet : (limits : Limits) (reads : Reads) (s : State) (app : ℕ) (call : Call) (made : BusAnswer × State) → IsTrue (is_quiet call) → IsTrue (leaves_desk call) →
-    recorded reads limits s app call made ≡ (made.0, record made.1 { events = s.events; statistics = statistics_by s.statistics call made.0 [] (in_use limits made.1) })
-recorded_quiet limits reads s app call made quiet leaves =
+pub recorded_quiet : (limits : Limits) (s : State) (app : ℕ) (call : Call) (made : BusAnswer × State) → IsTrue (is_quiet call) → IsTrue (leaves_desk call) →
+    recorded limits s app call made ≡ (made.0, record made.1 { events = s.events; statistics = statistics_by s.statistics call made.0 [] (in_use limits made.1) })
+recorded_quiet limits s app call made quiet leaves =
     ap (λ events. (made.0, record made.1 { events = desk_by s.events app call events; statistics = statistics_by s.statistics call made.0 events (in_use limits made.1) }))
-    (quiet_events limits reads s app call made.0 quiet)
+    (quiet_events s app call made.0 quiet)
     ∙ ap (λ desk. (made.0, record made.1 { events = desk; statistics = statistics_by s.statistics call made.0 [] (in_use limits made.1) })) (quiet_desk s.events app call leaves)

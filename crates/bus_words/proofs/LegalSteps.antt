@@ -179,7 +179,7 @@ pub legal-step : (F : State → Type 0) (limits : Limits) (history : List Entry)
     IsTrue (may_call (standing_of s app) call) → KeepsLegal F limits s app → F ((step limits history s app call).1)
 legal-step F limits history s app call may keeps =
     let made = decided limits history s app call (cause limits s app call) in
-    let next = recorded (reads_after limits history) limits s app call made in
+    let next = recorded limits s app call made in
     keeps.records made.1 next.1.events next.1.statistics (legal-decided F limits history s app call (cause limits s app call) refl may keeps)
 
 -- Standings. --

@@ -4,6 +4,7 @@ pub mod Balance
 pub mod Bounds
 pub mod Buffers
 pub mod Draws
+pub mod EventCounts
 pub mod EventDesks
 pub mod Finds
 pub mod Firsts
@@ -14,6 +15,7 @@ pub mod Journals
 pub mod KeptPipes
 pub mod Lasts
 pub mod LegalSteps
+pub mod MissedItems
 pub mod Numbers
 pub mod OnePipe
 pub mod OwnEntries

@@ -408,7 +408,7 @@ counts-step limits history s pool n m e from counted_all answered counts =
     }
 
 -- a count of an entry more
-count-more : (p : Entry → Bool) (e : Entry) (es : List Entry) → count_by p (e ∷ es) ≡ cond {A = ℕ} (p e) 1 0 + count_by p es
+pub count-more : (p : Entry → Bool) (e : Entry) (es : List Entry) → count_by p (e ∷ es) ≡ cond {A = ℕ} (p e) 1 0 + count_by p es
 count-more p e es =
     sum_by-append (λ (x : Entry). cond {A = ℕ} (p x) 1 0) (e ∷ []) es ∙ ap (λ n. n + count_by p es) (zero-add (cond {A = ℕ} (p e) 1 0))
 

@@ -22,7 +22,7 @@ use Rattle.bus_words.specs.Refusals.{Refusal, OfBus, OfPools, OfEvents, refusal_
 use Rattle.bus_words.specs.Events.{Moment, sent_events, call_events, desk_by}
 use Rattle.bus_events.specs.Events.{served_all}
 use Rattle.bus_words.specs.Counters.{event_counter, counters_raised, statistics_by, statistics_then}
-use Rattle.bus_words.specs.Machine.{sending_from, packet_in, sent_along, cause, decided_with, recorded, reads_after, step, state_from, state_after, LegalFrom, IsLegal, moments_from, moments, statistics_after}
+use Rattle.bus_words.specs.Machine.{sending_from, packet_in, sent_along, cause, decided_with, recorded, step, state_from, state_after, LegalFrom, IsLegal, moments_from, moments, statistics_after}
 use Rattle.bus_words.specs.Acts.{NextCount, Whole, reads_in, moved_on, completed, act}
 use Rattle.bus_words.proofs.Acts.{id-packet}
 use Rattle.bus_words.proofs.HeldBlocks.{bytes_of_sends}
@@ -37,29 +37,29 @@ statistics_from limits history s (e ∷ es) legal =
     let next = (step limits history s e.app e.call).1 in
     statistics_from limits (history ++ e ∷ []) next es legal.4
     ∙ ap (λ (a : BusAnswer). fold (statistics_then limits)
-    (statistics_by s.statistics e.call a (call_events limits (reads_after limits history) s e.app e.call a) (in_use limits next))
+    (statistics_by s.statistics e.call a (call_events s e.app e.call a) (in_use limits next))
     (moments_from limits (history ++ e ∷ []) next es)) (sym legal.1)
 
 -- one entry more of what was counted and seen
 one_more : (limits : Limits) (names : List CounterName) (uses : List InUse) (m : Moment) →
-    statistics_then limits (statistics_of names uses) m ≡ statistics_of (names ++ counters_raised limits m) (uses ++ in_use limits m.after ∷ [])
+    statistics_then limits (statistics_of names uses) m ≡ statistics_of (names ++ counters_raised m) (uses ++ in_use limits m.after ∷ [])
 unfolding statistics_by
 one_more limits names uses m =
-    ap (λ counts. record { counts = counts; peak = greater (peak_of uses) (in_use limits m.after) }) (sym (counts_of-append names (counters_raised limits m)))
-    ∙ ap (λ peak. record { counts = (statistics_of (names ++ counters_raised limits m) uses).counts; peak = peak }) (sym (peak_of-push uses (in_use limits m.after)))
+    ap (λ counts. record { counts = counts; peak = greater (peak_of uses) (in_use limits m.after) }) (sym (counts_of-append names (counters_raised m)))
+    ∙ ap (λ peak. record { counts = (statistics_of (names ++ counters_raised m) uses).counts; peak = peak }) (sym (peak_of-push uses (in_use limits m.after)))
 
 told_from : (limits : Limits) (names : List CounterName) (uses : List InUse) (ms : List Moment) →
     fold (statistics_then limits) (statistics_of names uses) ms
-    ≡ statistics_of (names ++ flat_map (counters_raised limits) ms) (uses ++ map (λ m. in_use limits m.after) ms)
+    ≡ statistics_of (names ++ flat_map counters_raised ms) (uses ++ map (λ m. in_use limits m.after) ms)
 told_from limits names uses [] =
     ap (λ ns. statistics_of ns uses) (sym (append-nil names)) ∙ ap (statistics_of (names ++ [])) (sym (append-nil uses))
 told_from limits names uses (m ∷ ms) =
-    let raised = counters_raised limits m in
+    let raised = counters_raised m in
     let now = in_use limits m.after in
     ap (λ statistics. fold (statistics_then limits) statistics ms) (one_more limits names uses m)
     ∙ told_from limits (names ++ raised) (uses ++ now ∷ []) ms
-    ∙ ap (λ ns. statistics_of ns ((uses ++ now ∷ []) ++ map (λ (x : Moment). in_use limits x.after) ms)) (append_assoc names raised (flat_map (counters_raised limits) ms))
-    ∙ ap (statistics_of (names ++ (raised ++ flat_map (counters_raised limits) ms))) (append_assoc uses (now ∷ []) (map (λ (x : Moment). in_use limits x.after) ms))
+    ∙ ap (λ ns. statistics_of ns ((uses ++ now ∷ []) ++ map (λ (x : Moment). in_use limits x.after) ms)) (append_assoc names raised (flat_map counters_raised ms))
+    ∙ ap (statistics_of (names ++ (raised ++ flat_map counters_raised ms))) (append_assoc uses (now ∷ []) (map (λ (x : Moment). in_use limits x.after) ms))
 
 -- after every legal history
 pub statistics_after-legal : (limits : Limits) (apps : ℕ) (history : List Entry) → IsLegal limits apps history →
@@ -81,7 +81,7 @@ capped_by statistics call answer events now = greater-twice statistics.peak now
 pub AreCapped-step : (limits : Limits) (history : List Entry) (s : State) (app : ℕ) (call : Call) → AreCapped limits ((step limits history s app call).1)
 AreCapped-step limits history s app call =
     let made = step limits history s app call in
-    capped_by s.statistics call made.0 (call_events limits (reads_after limits history) s app call made.0) (in_use limits made.1)
+    capped_by s.statistics call made.0 (call_events s app call made.0) (in_use limits made.1)
 
 AreCapped-opening : (limits : Limits) (apps : ℕ) → AreCapped limits (opening limits apps)
 AreCapped-opening limits apps =
@@ -103,7 +103,7 @@ module _ (limits : Limits) (w : Whole) (app : ℕ) where
 
   -- what the call leaves, so answered
   abbrev left_by : Call → BusAnswer × State → BusAnswer × Whole
-  left_by call made = completed limits w call (recorded (reads_in w) limits w.bus app call made)
+  left_by call made = completed limits w call (recorded limits w.bus app call made)
 
   -- what a send of this id leaves, so answered
   abbrev sent_as : ℕ → ℕ → ℕ → State → BusAnswer × Whole
@@ -111,9 +111,9 @@ module _ (limits : Limits) (w : Whole) (app : ℕ) where
     Sent number reached,
     record {
       bus = record t {
-        events = served_all w.bus.events (sent_events w.bus id sending);
+        events = served_all w.bus.events (sent_events w.bus id app);
         statistics = record {
-          counts = fold ticked w.bus.statistics.counts (flat_map event_counter (sent_events w.bus id sending));
+          counts = fold ticked w.bus.statistics.counts (flat_map event_counter (sent_events w.bus id app));
           peak = greater w.bus.statistics.peak (in_use limits t);
         };
       };

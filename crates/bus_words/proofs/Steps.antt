@@ -232,7 +232,7 @@ pub after_step : (F : State → Type 0) (limits : Limits) (history : List Entry)
     Keeps F limits s app → F ((step limits history s app call).1)
 after_step F limits history s app call keeps =
     let made = decided limits history s app call (cause limits s app call) in
-    let next = recorded (reads_after limits history) limits s app call made in
+    let next = recorded limits s app call made in
     keeps.records made.1 next.1.events next.1.statistics (after_decided F limits history s app call (cause limits s app call) refl keeps)
 
 -- what each step keeps holds after more entries

@@ -144,6 +144,11 @@ pub record Sending : Type 0 where
   pub asked : ℕ
   pub message : List ℕ
 
+-- a send of an application, of which nothing else is said: no verdict looks at a number, a size or
+-- bytes
+abbrev pub any_send : ℕ → Sending
+any_send app = record { sender = app; number = 0; asked = 0; message = [] }
+
 -- the item that a subscription queues
 abbrev pub item_for : Sending → Subscription → Item
 item_for sending sub =

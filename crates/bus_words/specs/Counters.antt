@@ -56,8 +56,8 @@ abbrev pub counters_of : Call → BusAnswer → List ServiceEvent → List Count
 counters_of call answer events = refusal_counter call answer ++ flat_map event_counter events
 
 -- the counters that an entry raises
-abbrev pub counters_raised : Limits → Moment → List CounterName
-counters_raised limits m = counters_of m.entry.call m.entry.answer (service_events limits m)
+abbrev pub counters_raised : Moment → List CounterName
+counters_raised m = counters_of m.entry.call m.entry.answer (service_events m)
 
 -- Statistics. --
 
@@ -73,14 +73,14 @@ statistics_by statistics call answer events now = record {
 -- these statistics after an entry
 abbrev pub statistics_then : Limits → Statistics → Moment → Statistics
 statistics_then limits statistics m =
-    statistics_by statistics m.entry.call m.entry.answer (service_events limits m)
+    statistics_by statistics m.entry.call m.entry.answer (service_events m)
     (in_use limits m.after)
 
 -- the statistics of these moments: how often each counter was raised, and of each number in use the
 -- greatest that stood after one of them
 abbrev pub statistics_told : Limits → List Moment → Statistics
 statistics_told limits moments =
-    statistics_of (flat_map (counters_raised limits) moments)
+    statistics_of (flat_map counters_raised moments)
     (map (λ m. in_use limits m.after) moments)
 
 -- the figures of the bus: the counters of messages that went nowhere, over their limit or to a full

@@ -1,8 +1,7 @@
 -- The events that the bus tells of its calls, and the event desk (cFE Event Services) after each
 -- call.
-use Rattle.std.specs.Prelude.{ℕ, true, List, [], ◌∷◌, map, fold, if◌then◌else◌}
+use Rattle.std.specs.Prelude.{ℕ, List, [], ◌∷◌, map, fold, if◌then◌else◌}
 use Rattle.fsw_base.specs.EventDesk.{Desk, new_desk, registered, unregistered, sent, reset, with_mode, cleared}
-use Rattle.fsw_base.specs.Limits.{Limits}
 use Rattle.ccsds_msg.specs.Message.{message_id}
 use Rattle.housekeeping.specs.Packet.{housekeeping_id}
 use Rattle.bus_events.specs.declared.event.ServiceEvent.{ServiceEvent}
@@ -16,13 +15,10 @@ use Rattle.bus_words.specs.declared.history.Entry.{Entry}
 use Rattle.bus_words.specs.declared.miss.Miss.{Miss}
 use Rattle.bus_words.specs.declared.miss.MissCause.{MissCause}
 use Rattle.bus_words.specs.declared.miss.MissCause.TheVariants.{OverLimit, Full, Oldest}
-use Rattle.bus_words.specs.Bus.{Pipe, Subscription, State, Sending, missed, route, is_subscribed}
-use Rattle.bus_words.specs.Sends.{Reads, sending_from, sending_in, packet_in}
+use Rattle.bus_words.specs.Bus.{Pipe, Subscription, State, any_send, missed, route, is_subscribed}
 
--- An entry of a history at its moment: what its call saw beside the bus, the bus before it, the
--- entry, and the bus after it.
+-- An entry of a history at its moment: the bus before it, the entry, and the bus after it.
 pub record Moment : Type 0 where
-  pub reads : Reads
   pub before : State
   pub entry : Entry
   pub after : State
@@ -44,19 +40,19 @@ miss_event id sender miss = cause_event miss.cause id miss.pipe sender
 abbrev pub miss_events : ℕ → ℕ → List Miss → List ServiceEvent
 miss_events id sender misses = map (miss_event id sender) misses
 
--- what is told of these destinations of a message of this id, in order
-abbrev pub delivery_events : ℕ → Sending → List Subscription → List Pipe → List ServiceEvent
-delivery_events id sending subs pipes = miss_events id sending.sender (missed sending subs pipes)
+-- what is told of these destinations of a message of this id and sender, in order
+abbrev pub delivery_events : ℕ → ℕ → List Subscription → List Pipe → List ServiceEvent
+delivery_events id sender subs pipes = miss_events id sender (missed (any_send sender) subs pipes)
 
--- what is told of a send of this id that isn't refused: that nobody subscribes to the id, or which
--- pipes miss the message or dropped their oldest one for it
-abbrev pub send_events : ℕ → Sending → List Subscription → List Pipe → List ServiceEvent
-send_events id sending [] pipes = NoSubscribers id ∷ []
-send_events id sending (sub ∷ subs) pipes = delivery_events id sending (sub ∷ subs) pipes
+-- what is told of a send of this id and sender that isn't refused: that nobody subscribes to the
+-- id, or which pipes miss the message or dropped their oldest one for it
+abbrev pub send_events : ℕ → ℕ → List Subscription → List Pipe → List ServiceEvent
+send_events id sender [] pipes = NoSubscribers id ∷ []
+send_events id sender (sub ∷ subs) pipes = delivery_events id sender (sub ∷ subs) pipes
 
 -- the same on this bus
-abbrev pub sent_events : State → ℕ → Sending → List ServiceEvent
-sent_events s id sending = send_events id sending (route s.subscriptions id) s.pipes
+abbrev pub sent_events : State → ℕ → ℕ → List ServiceEvent
+sent_events s id sender = send_events id sender (route s.subscriptions id) s.pipes
 
 -- Calls. --
 
@@ -77,26 +73,24 @@ unless_refused (Es status) events = []
 unless_refused (Evs status) events = []
 unless_refused answer events = events
 
--- what the bus tells of an application's call so answered, in order, where the call saw this beside
--- this bus
-unfoldable pub call_events : Limits → Reads → State → ℕ → Call → BusAnswer → List ServiceEvent
-call_events limits reads s app (Subscribe id pipe limit scope) answer =
+-- what the bus tells of an application's call so answered, in order, where this is the bus before
+-- it. Of a send its id and its sender say enough.
+unfoldable pub call_events : State → ℕ → Call → BusAnswer → List ServiceEvent
+call_events s app (Subscribe id pipe limit scope) answer =
     unless_refused answer (subscribe_events s id pipe)
-call_events limits reads s app (Unsubscribe id pipe) answer =
+call_events s app (Unsubscribe id pipe) answer =
     unless_refused answer (unsubscribe_events s id pipe)
-call_events limits reads s app (Transmit bytes inc) answer =
-    unless_refused answer (sent_events s (message_id bytes) (sending_from reads s app bytes inc))
-call_events limits reads s app (TransmitBuffer buf bytes inc) answer =
-    unless_refused answer (sent_events s (message_id bytes) (sending_in reads s app buf bytes inc))
-call_events limits reads s app Housekeeping answer =
-    unless_refused answer
-    (sent_events s housekeeping_id (sending_from reads s app (packet_in limits s) true))
-call_events limits reads s app call answer = []
+call_events s app (Transmit bytes inc) answer =
+    unless_refused answer (sent_events s (message_id bytes) app)
+call_events s app (TransmitBuffer buf bytes inc) answer =
+    unless_refused answer (sent_events s (message_id bytes) app)
+call_events s app Housekeeping answer =
+    unless_refused answer (sent_events s housekeeping_id app)
+call_events s app call answer = []
 
 -- what the bus tells of an entry's call
-abbrev pub service_events : Limits → Moment → List ServiceEvent
-service_events limits m =
-    call_events limits m.reads m.before m.entry.app m.entry.call m.entry.answer
+abbrev pub service_events : Moment → List ServiceEvent
+service_events m = call_events m.before m.entry.app m.entry.call m.entry.answer
 
 -- The event desk. --
 
@@ -112,9 +106,9 @@ desk_by desk app End events = unregistered desk app
 desk_by desk app call events = served_all desk events
 
 -- this event desk after an entry
-abbrev pub desk_then : Limits → Desk → Moment → Desk
-desk_then limits desk m = desk_by desk m.entry.app m.entry.call (service_events limits m)
+abbrev pub desk_then : Desk → Moment → Desk
+desk_then desk m = desk_by desk m.entry.app m.entry.call (service_events m)
 
 -- the event desk after these moments, from the first one on
-abbrev pub desk_told : Limits → List Moment → Desk
-desk_told limits moments = fold (desk_then limits) new_desk moments
+abbrev pub desk_told : List Moment → Desk
+desk_told moments = fold desk_then new_desk moments

@@ -425,10 +425,9 @@ decided limits history s app call why =
     decided_with (reads_after limits history) limits s app call why
 
 -- a call so answered at its moment
-abbrev pub moment_of : Reads → State → ℕ → Call → BusAnswer × State → Moment
-moment_of reads s app call made =
+abbrev pub moment_of : State → ℕ → Call → BusAnswer × State → Moment
+moment_of s app call made =
     record {
-      reads = reads;
       before = s;
       entry = record { app = app; call = call; answer = made.0 };
       after = made.1;
@@ -436,19 +435,19 @@ moment_of reads s app call made =
 
 -- what a call so answered leaves, refused or not, with what the event desk is told and what is
 -- counted
-abbrev pub recorded : Reads → Limits → State → ℕ → Call → BusAnswer × State → BusAnswer × State
-recorded reads limits s app call made = (
+abbrev pub recorded : Limits → State → ℕ → Call → BusAnswer × State → BusAnswer × State
+recorded limits s app call made = (
   made.0,
   record made.1 {
-    events = desk_then limits s.events (moment_of reads s app call made);
-    statistics = statistics_then limits s.statistics (moment_of reads s app call made);
+    events = desk_then s.events (moment_of s app call made);
+    statistics = statistics_then limits s.statistics (moment_of s app call made);
   },
 )
 
 -- what the call answers where it sees this beside the bus, and the bus afterwards
 abbrev pub step_with : Reads → Limits → State → ℕ → Call → BusAnswer × State
 step_with reads limits s app call =
-    recorded reads limits s app call
+    recorded limits s app call
     (decided_with reads limits s app call (cause limits s app call))
 
 -- what the call answers after this history, and the bus afterwards
@@ -509,7 +508,7 @@ abbrev pub moments_from : Limits → List Entry → State → List Entry → Lis
 moments_from limits history s [] = []
 moments_from limits history s (e ∷ es) =
     let after = (step limits history s e.app e.call).1 in
-    record { reads = reads_after limits history; before = s; entry = e; after = after } ∷
+    record { before = s; entry = e; after = after } ∷
     moments_from limits (history ++ e ∷ []) after es
 
 -- the entries of a history of so many applications, each at its moment
@@ -518,7 +517,7 @@ moments limits apps history = moments_from limits [] (opening limits apps) histo
 
 -- the event desk of a history
 abbrev pub desk_after : Limits → ℕ → List Entry → Desk
-desk_after limits apps history = desk_told limits (moments limits apps history)
+desk_after limits apps history = desk_told (moments limits apps history)
 
 -- the statistics of a history
 abbrev pub statistics_after : Limits → ℕ → List Entry → Statistics

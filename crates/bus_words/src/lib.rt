@@ -38,6 +38,7 @@
 //!   send is held and every block is back.
 //! - `events_are_told`, `statistics_are_counted`: the event desk, counters and peaks are those of
 //!   the history (`desk_after`, `statistics_after`), and nothing in use is above its peak.
+//!   `event_refusals_are_read`: refused events and resets are counted off the history.
 //!   `housekeeping_is_a_send`: it answers and leaves what a send of its packet does.
 //!
 //! What a pipe is, and what happens to a message there, is defined once, for items of any kind
@@ -48,6 +49,7 @@
 
 mod app_laws;
 mod calls;
+mod event_laws;
 mod history;
 mod journal;
 mod laws;
@@ -61,6 +63,7 @@ mod verdict;
 
 pub use app_laws::applications_stay;
 pub use calls::{BusAnswer, BusCall, BusEntry, LentEntry};
+pub use event_laws::event_refusals_are_read;
 pub use history::{Call, Entry};
 pub use journal::BusJournal;
 pub use journal_store::Allowance;

@@ -1,6 +1,6 @@
 //! The filters with which an application registered (cFE Event Services, event filtering).
 ghost use Rattle.std.specs.Prelude.{◌≡◌, ◌-◌};
-ghost use Rattle.fsw_base.specs.EventFilters.{fresh_filters, is_open, has_filter, passes, after_event, counted, after_reset, restarted};
+ghost use Rattle.fsw_base.specs.EventFilters.{fresh_filters, is_open, has_filter, passes, after_event, all_after_event, after_reset, restarted};
 
 use arrayvec::ArrayVec;
 use fsw_base::{FilterList, MAX_FILTERS};
@@ -103,7 +103,7 @@ impl Registration {
 
     /// The filter for this event id counts one event more.
     pub fn count(&mut self, id: u16)
-        ensures { self.new ≡ counted self.old id }
+        ensures { self.new ≡ all_after_event self.old id }
     {
         count_events(self.filters.as_mut_slice(), id);
     }
@@ -118,7 +118,7 @@ impl Registration {
 
 // The filter for this event id counts one event more.
 fn count_events(filters: &mut [Filter], id: u16)
-    ensures { filters.new ≡ counted filters.old id }
+    ensures { filters.new ≡ all_after_event filters.old id }
 {
     for filter in filters {
         filter.count_event(id);

@@ -4,7 +4,8 @@ use Rattle.std.specs.Prelude.{ℕ, ◌+◌, ◌-◌, min, Bool, List, [], replic
 use Rattle.fsw_base.specs.declared.events.EventKind.{EventKind}
 use Rattle.fsw_base.specs.declared.statuses.EvsStatus.{EvsStatus}
 use Rattle.fsw_base.specs.declared.statuses.EvsStatus.TheVariants.{AppNotRegistered, EvtNotRegistered}
-use Rattle.fsw_base.specs.EventFilters.{EventFilter, fresh_filters, passes, counted, has_filter, restarted}
+use Rattle.fsw_base.specs.EventFilters.{EventFilter, fresh_filters, passes, all_after_event, has_filter, restarted}
+pub use Rattle.fsw_base.specs.PoolAccounts.{counted}
 use Rattle.fsw_base.specs.EventLog.{Log, empty_log, is_cut, event_line, is_full, kept}
 
 pub record Desk : Type 0 where
@@ -35,13 +36,9 @@ new_desk =
       lost = 0;
     }
 
--- one more, short of the last value of a count
-abbrev pub one_more : ℕ → ℕ
-one_more count = min (count + 1) 4294967295
-
 -- one more where the test holds
-abbrev pub one_more_if : Bool → ℕ → ℕ
-one_more_if test count = if test then one_more count else count
+abbrev pub counted_if : Bool → ℕ → ℕ
+counted_if test count = if test then counted count else count
 
 -- the filters of an application, none where it isn't registered
 abbrev pub filters_of : Desk → ℕ → Option (List EventFilter)
@@ -65,9 +62,9 @@ unregistered desk app = with_filters desk app None
 unfoldable pub passed : Desk → ℕ → ℕ → EventKind → List ℕ → Desk
 passed desk app id kind text = record desk {
   log = kept desk.log (event_line app id kind text);
-  sent = one_more desk.sent;
-  cut = one_more_if (is_cut text) desk.cut;
-  lost = one_more_if (is_full desk.log) desk.lost;
+  sent = counted desk.sent;
+  cut = counted_if (is_cut text) desk.cut;
+  lost = counted_if (is_full desk.log) desk.lost;
 }
 
 -- a service logs an event of its own: application number 0, never filtered
@@ -76,11 +73,11 @@ served desk id kind text = passed desk 0 id kind text
 
 -- a call is refused
 abbrev pub refused_once : Desk → Desk
-refused_once desk = record desk { refused = one_more desk.refused }
+refused_once desk = record desk { refused = counted desk.refused }
 
 -- the filter for the event's id counts it, passed or not
 abbrev pub tested : Desk → ℕ → List EventFilter → ℕ → Desk
-tested desk app filters id = with_filters desk app (Some (counted filters id))
+tested desk app filters id = with_filters desk app (Some (all_after_event filters id))
 
 -- an application sends an event: refused where it isn't registered, else passed or held back by its
 -- filters
@@ -91,7 +88,7 @@ sent desk app id kind text = by_filters (filters_of desk app)
     by_filters None = refused_once desk
     by_filters (Some filters) =
         if passes filters id then passed (tested desk app filters id) app id kind text
-        else (record (tested desk app filters id) { filtered = one_more desk.filtered })
+        else (record (tested desk app filters id) { filtered = counted desk.filtered })
 
 -- why an event is refused: its application isn't registered
 abbrev pub send_refusal : Desk → ℕ → Option EvsStatus

@@ -31,8 +31,8 @@ after_event id filter =
     if filter.id == id then record filter { count = min (filter.count + 1) 65535 } else filter
 
 -- the filters after an event of this id, passed or not
-abbrev pub counted : List EventFilter → ℕ → List EventFilter
-counted filters id = map (after_event id) filters
+abbrev pub all_after_event : List EventFilter → ℕ → List EventFilter
+all_after_event filters id = map (after_event id) filters
 
 -- a filter after a reset of this id: it counts from 0 again where the id is its own
 abbrev pub after_reset : ℕ → EventFilter → EventFilter

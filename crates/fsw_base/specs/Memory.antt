@@ -26,8 +26,8 @@ pub record Store : Type 0 where
   pub faults : ℕ
 
 -- one more, short of the last value of a count
-abbrev pub counted : ℕ → ℕ
-counted n = min (n + 1) (2 ^ 64 - 1)
+abbrev pub one_more : ℕ → ℕ
+one_more n = min (n + 1) (2 ^ 64 - 1)
 
 -- whether the list has this number
 abbrev pub is_listed : ℕ → List ℕ → Bool
@@ -36,33 +36,33 @@ is_listed call fails = list_any (λ fail. fail == call) fails
 -- a listed call fails; else it gives as much as a piece, the buffer and the bytes left allow
 abbrev pub read_answer : Supply → ℕ → ReadAnswer
 read_answer s room =
-    if is_listed (counted s.calls) s.fails then Failed
+    if is_listed (one_more s.calls) s.fails then Failed
     else (if min s.piece (min room (length s.left)) == 0 then End
     else (Got (min s.piece (min room (length s.left)))))
 
 -- what a read leaves
 abbrev pub after_read : Supply → ℕ → Supply
 after_read s room =
-    if is_listed (counted s.calls) s.fails
-    then record s { calls = counted s.calls; faults = counted s.faults }
+    if is_listed (one_more s.calls) s.fails
+    then record s { calls = one_more s.calls; faults = one_more s.faults }
     else (record s
-    { calls = counted s.calls; left = drop (min s.piece (min room (length s.left))) s.left })
+    { calls = one_more s.calls; left = drop (min s.piece (min room (length s.left))) s.left })
 
 -- a listed call and one that finds no room fail; else it takes as much as a piece, the bytes given
 -- and the room allow
 abbrev pub write_answer : Store → ℕ → WriteAnswer
 write_answer s given =
-    if is_listed (counted s.calls) s.fails || (min s.piece (min given s.room) == 0)
+    if is_listed (one_more s.calls) s.fails || (min s.piece (min given s.room) == 0)
     then writes.Failed
     else (writes.Took (min s.piece (min given s.room)))
 
 -- what a write leaves
 abbrev pub after_write : Store → List ℕ → Store
 after_write s bytes =
-    if is_listed (counted s.calls) s.fails || (min s.piece (min (length bytes) s.room) == 0)
-    then record s { calls = counted s.calls; faults = counted s.faults }
+    if is_listed (one_more s.calls) s.fails || (min s.piece (min (length bytes) s.room) == 0)
+    then record s { calls = one_more s.calls; faults = one_more s.faults }
     else (record s {
-      calls = counted s.calls;
+      calls = one_more s.calls;
       written = s.written ++ take (min s.piece (min (length bytes) s.room)) bytes;
       room = s.room - min s.piece (min (length bytes) s.room);
     })

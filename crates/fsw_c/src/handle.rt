@@ -1,7 +1,7 @@
 //! What C holds of the core.
 ghost use Rattle.std.specs.Prelude.{◌≡◌, ◌↔◌, Some, None, IsSome, IsTrue, MatchOption};
 
-use crate::held::Held;
+use crate::held::HeldCore;
 use fsw_core::Core;
 use std::alloc::Global;
 use std::mem;
@@ -11,7 +11,7 @@ use std::mem;
 #[derive(Drop)]
 pub struct FswCore {
     // The core, or none.
-    pub(crate) held: Held,
+    pub(crate) held: HeldCore,
     // Whether there is one.
     pub(crate) is_open: bool,
     /// It is open where there is a core.
@@ -24,7 +24,7 @@ impl FswCore {
         ensures { result.held.value ≡ Some core.entry.value }
     {
         FswCore {
-            held: Held::of(core),
+            held: HeldCore::of(core),
             is_open: true,
         }
     }
@@ -39,7 +39,7 @@ impl FswCore {
             return None;
         }
         let closed = FswCore {
-            held: Held::none(alloc),
+            held: HeldCore::none(alloc),
             is_open: false,
         };
         let FswCore { held, is_open: _ } = mem::replace(self, closed);

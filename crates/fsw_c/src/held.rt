@@ -10,7 +10,7 @@ use std::marker::Model;
 /// A boxed core as its pointer, or none.
 #[repr(C)]
 #[derive(Drop)]
-pub struct Held {
+pub struct HeldCore {
     // Where the core lies; null where there is none.
     at: *mut u8,
     // What frees it.
@@ -19,28 +19,28 @@ pub struct Held {
     pub ghost value: { Option Core },
 }
 
-impl Model for Held {
+impl Model for HeldCore {
     ghost use Rattle.fsw_c.specs.Owned.{maybe_owns};
 
     ghost also_owns = { λ h. maybe_owns h.alloc h.at h.value };
 }
 
-impl Held {
+impl HeldCore {
     /// Holds nothing.
-    pub(crate) fn none(alloc: Global) -> Held
+    pub(crate) fn none(alloc: Global) -> HeldCore
         ensures { result.value ≡ None }
     {
-        Held {
+        HeldCore {
             at: std::ptr::null_mut(),
             alloc,
         }
     }
 
-    fn of_parts(parts: Parts<Core, Global>) -> Held
+    fn of_parts(parts: Parts<Core, Global>) -> HeldCore
         ensures { result.value ≡ Some parts.entry.value }
     {
         let Parts { ptr, alloc } = parts;
-        Held {
+        HeldCore {
             at: ptr as *mut u8,
             alloc,
         }
@@ -50,7 +50,7 @@ impl Held {
         requires { IsSome self.value }
         ensures { self.value ≡ Some result.value }
     {
-        let Held { at, alloc } = self;
+        let HeldCore { at, alloc } = self;
         Parts {
             ptr: at as *mut Core,
             alloc,
@@ -58,10 +58,10 @@ impl Held {
     }
 
     /// Holds a box.
-    pub(crate) fn of(core: Box<Core>) -> Held
+    pub(crate) fn of(core: Box<Core>) -> HeldCore
         ensures { result.value ≡ Some core.entry.value }
     {
-        Held::of_parts(Parts::of(core))
+        HeldCore::of_parts(Parts::of(core))
     }
 
     /// The box.
@@ -73,4 +73,4 @@ impl Held {
     }
 }
 
-unsafe impl Send for Held {}
+unsafe impl Send for HeldCore {}

@@ -70,5 +70,5 @@ module _ (now : Played) (app : ℕ) (is_id : message_id (packet_in now.limits no
   unfolding call_events
   packet_events bytes answer events is has =
       has
-      ∙ ap (λ b. unless_refused answer (sent_events s (message_id b) (sending_from (reads_in now.whole) s app b true))) is
-      ∙ ap (λ id. unless_refused answer (sent_events s id sending)) is_id
+      ∙ ap (λ b. unless_refused answer (sent_events s (message_id b) app)) is
+      ∙ ap (λ id. unless_refused answer (sent_events s id app)) is_id

@@ -6,7 +6,7 @@ use Rattle.housekeeping.specs.Statistics.{Statistics}
 use Rattle.bus_events.specs.declared.event.ServiceEvent.{ServiceEvent}
 use Rattle.bus_words.specs.declared.calls.BusAnswer.{BusAnswer}
 use Rattle.bus_words.specs.declared.history.Call.{Call}
-use Rattle.bus_words.specs.Acts.{Whole, reads_in}
+use Rattle.bus_words.specs.Acts.{Whole}
 use Rattle.bus_words.specs.Counters.{statistics_by}
 use Rattle.bus_words.specs.Events.{desk_by, call_events}
 use Rattle.bus_words.specs.Held.{in_use}
@@ -30,7 +30,7 @@ module _ (old mid : Played) (app : ℕ) (call : Call) (answer : BusAnswer) (even
   abbrev all : BusAnswer × Whole → BusAnswer × Whole
   all made =
       let s = old.whole.bus in
-      out old.limits (call_events old.limits (reads_in old.whole) s app call made.0) s.events s.statistics made
+      out old.limits (call_events s app call made.0) s.events s.statistics made
 
   -- the state with the desk changed
   abbrev served : Played

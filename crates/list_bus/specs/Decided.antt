@@ -36,7 +36,7 @@ pub record Decides (old new : Played) (app : ℕ) (call : Call) (answer : BusAns
 -- these are the events of the call
 abbrev pub HasEvents : Played → ℕ → Call → BusAnswer → List ServiceEvent → Type 0
 HasEvents old app call answer events =
-    events ≡ call_events old.limits (reads_in old.whole) old.whole.bus app call answer
+    events ≡ call_events old.whole.bus app call answer
 
 -- whether such a call never has an event
 abbrev pub is_silent : Call → Bool

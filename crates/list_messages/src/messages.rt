@@ -2,7 +2,7 @@
 ghost use Rattle.std.specs.Prelude.{◌≡◌, ◌+◌, ◌-◌, ◌≤◌, nat_lt, length, map, IsTrue, IfOk, true, if◌then◌else◌};
 ghost use Rattle.std.specs.Result.{OnOk};
 ghost use Rattle.fsw_base.specs.PoolAccounts.{has_room};
-ghost use Rattle.bus_words.specs.Bus.{with_pipe, without_pipe, with_bits, after_receive, has_unsent, unsent_size, unsent_of, with_unsent, without_unsent, without_all_unsent, reached, missed};
+ghost use Rattle.bus_words.specs.Bus.{with_pipe, without_pipe, with_bits, after_receive, has_unsent, unsent_size, unsent_of, with_unsent, without_unsent, without_all_unsent, reached, any_send, missed};
 ghost use Rattle.bus_words.specs.Held.{held, bytes_in_use};
 ghost use Rattle.list_pipes.specs.Leaving.{numbers_at, numbers_of, last_at};
 ghost use Rattle.list_messages.specs.Messages.{IsKept, no_messages, account_in, with_new_pipe, with_buffer, with_sent, with_passed, without_all_of, sending_of, passing_of};
@@ -253,8 +253,7 @@ impl ListMessages {
             self.old.part.pipes) }
         ensures misses { IfOk result
             (λ done. done.misses.items ≡
-            missed (sending_of self.old.part sender size message.items) subs.now
-            self.old.part.pipes) }
+            missed (any_send sender) subs.now self.old.part.pipes) }
         ensures kept { OnOk result (IsKept self.new) }
     {
         let number = self.sends.next()?;
@@ -294,8 +293,7 @@ impl ListMessages {
             self.old.part.pipes) }
         ensures misses { IfOk result
             (λ done. done.misses.items ≡
-            missed (passing_of self.old.part sender number message.items) subs.now
-            self.old.part.pipes) }
+            missed (any_send sender) subs.now self.old.part.pipes) }
         ensures kept { OnOk result (IsKept self.new) }
     {
         let size = unsent_size(&self.unsent, sender, number);

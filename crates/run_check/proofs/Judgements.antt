@@ -9,8 +9,8 @@ use Rattle.app_script.specs.Script.{ScriptText}
 use Rattle.app_script.specs.ScriptRanges.{IsScript}
 use Rattle.script_runs.specs.Histories.{Histories}
 use Rattle.script_runs.specs.Runs.{IsRunOf}
-use Rattle.run_check.specs.declared.verdict.Verdict.{Verdict}
-use Rattle.run_check.specs.declared.verdict.Verdict.TheVariants.{No}
+use Rattle.run_check.specs.declared.judgement.Judgement.{Judgement}
+use Rattle.run_check.specs.declared.judgement.Judgement.TheVariants.{No}
 use Rattle.run_check.specs.Begun.{AreBegunTables, AreWholeTables, IsBegun, IsWhole}
 use Rattle.run_check.specs.Checks.{Beginning, IsAnswer, IsGood}
 use Rattle.run_check.specs.Fronts.{EndsLine, IsForced, IsReached, wrong_line}
@@ -62,10 +62,10 @@ no_lines : (f others : List ℕ) → EndsLine f → f ++ others ≡ [] → ⊥
 no_lines f others ends none = none_ends others ends.0 (ap (λ l. l ++ others) (sym ends.1) ∙ none)
 
 -- No is the answer
-says_no : (script : ScriptText) (bytes text : List ℕ) (verdict : Verdict) → verdict ≡ No (wrong_line bytes text) → ¬ IsGood script bytes → IsForced script bytes text → IsReached script text →
+says_no : (script : ScriptText) (bytes text : List ℕ) (verdict : Judgement) → verdict ≡ No (wrong_line bytes text) → ¬ IsGood script bytes → IsForced script bytes text → IsReached script text →
     IsAnswer script bytes verdict
 says_no script bytes text verdict is bad forced reached =
-    let P : Verdict → Type 0 = IsAnswer script bytes in subst P (sym is) (bad, wrong_lines script bytes text forced reached)
+    let P : Judgement → Type 0 = IsAnswer script bytes in subst P (sym is) (bad, wrong_lines script bytes text forced reached)
 
 -- The head. --
 
@@ -76,7 +76,7 @@ opening_head script h opening (WithTables whole is) = (entries_text h.bus ++ tab
 opening_head script h opening (WithAll whole all is) =
     (entries_text h.bus ++ (codes "tables\n" ++ (table_entries_text h.tables ++ behind_tables (receipts_in script h) (figures_in script h) (uses_in script h))), is ∙ report_of script h)
 
-no_head : (script : ScriptText) (bytes : List ℕ) (verdict : Verdict) → ¬ Begins bytes (head script) → verdict ≡ No (wrong_line bytes (head script)) → IsAnswer script bytes verdict
+no_head : (script : ScriptText) (bytes : List ℕ) (verdict : Judgement) → ¬ Begins bytes (head script) → verdict ≡ No (wrong_line bytes (head script)) → IsAnswer script bytes verdict
 no_head script bytes verdict wrong is = says_no script bytes (head script) verdict is bad (forced_from script bytes [] bytes (head script) (head script) refl refl steps) reached
   where
     bad : ¬ IsGood script bytes
@@ -133,7 +133,7 @@ with_bus script history begun = (
   sym (append-nil (bus_part script history)),
 )
 
-nobodys_entry : (script : ScriptText) (bytes : List ℕ) (verdict : Verdict) → IsScript script → (history : List Entry) (rest : List ℕ) → IsBegun script history → ¬ IsWhole script history →
+nobodys_entry : (script : ScriptText) (bytes : List ℕ) (verdict : Judgement) → IsScript script → (history : List Entry) (rest : List ℕ) → IsBegun script history → ¬ IsWhole script history →
     bytes ≡ bus_part script history ++ rest → ((e : Entry) → IsBegun script (history ++ e ∷ []) → ¬ Begins rest (entry_head (length history + 1) e.app)) →
     verdict ≡ No (wrong_line bytes (bus_part script history)) → IsAnswer script bytes verdict
 nobodys_entry script bytes verdict fine history rest begun missing is nobody says =
@@ -156,7 +156,7 @@ nobodys_entry script bytes verdict fine history rest begun missing is nobody say
         by (inr (NextEntry e more next text)) = absurd (nobody e next (head_cut (length history + 1) e rest f others more z text begins ends))
         by (inr (NextTables whole more text)) = absurd (missing whole)
 
-wrong_entry : (script : ScriptText) (bytes : List ℕ) (verdict : Verdict) → IsScript script → (history : List Entry) (e : Entry) (rest : List ℕ) → IsBegun script (history ++ e ∷ []) →
+wrong_entry : (script : ScriptText) (bytes : List ℕ) (verdict : Judgement) → IsScript script → (history : List Entry) (e : Entry) (rest : List ℕ) → IsBegun script (history ++ e ∷ []) →
     bytes ≡ bus_part script history ++ rest → Begins rest (entry_head (length history + 1) e.app) → ¬ Begins rest (entry_text (length history + 1) e) →
     verdict ≡ No (wrong_line bytes (bus_part script (history ++ e ∷ []))) → IsAnswer script bytes verdict
 wrong_entry script bytes verdict fine history e rest begun is headed wrong says =
@@ -194,7 +194,7 @@ wrong_entry script bytes verdict fine history e rest begun is headed wrong says 
             kept (entry_text (length history + 1) e) rest f others more z (text ∙ ap (λ x. entry_text (length history + 1) x ++ more) alike) begins wrong
         by (inr (NextTables whole more text)) = absurd (none_behind script history e [] whole begun)
 
-no_tables : (script : ScriptText) (bytes : List ℕ) (verdict : Verdict) → IsScript script → (history : List Entry) (rest : List ℕ) → IsBegun script history → IsWhole script history →
+no_tables : (script : ScriptText) (bytes : List ℕ) (verdict : Judgement) → IsScript script → (history : List Entry) (rest : List ℕ) → IsBegun script history → IsWhole script history →
     bytes ≡ bus_part script history ++ rest → ¬ Begins rest (codes "tables\n") → verdict ≡ No (wrong_line bytes (bus_part script history ++ codes "tables\n")) → IsAnswer script bytes verdict
 no_tables script bytes verdict fine history rest begun whole is wrong says =
     says_no script bytes (bus_part script history ++ codes "tables\n") verdict says bad
@@ -273,7 +273,7 @@ good_at_tables script bytes fine g rest begun whole tables is good =
     report_at_tables script fine.few g good.histories rest begun whole tables (begun_of script good.histories good.run) (begun_tables_of script good.histories good.run)
     good.run.merges.each good.run.merges.each_at_tables (sym good.same ∙ is)
 
-nobodys_table_entry : (script : ScriptText) (bytes : List ℕ) (verdict : Verdict) → IsScript script → (g : Histories) (rest : List ℕ) → IsBegun script g.bus → IsWhole script g.bus →
+nobodys_table_entry : (script : ScriptText) (bytes : List ℕ) (verdict : Judgement) → IsScript script → (g : Histories) (rest : List ℕ) → IsBegun script g.bus → IsWhole script g.bus →
     AreBegunTables script g.tables → ¬ AreWholeTables script g.tables → bytes ≡ entries_part script g ++ rest →
     ((e : TableEntry) → AreBegunTables script (g.tables ++ e ∷ []) → ¬ Begins rest (entry_head (length g.tables + 1) e.app)) →
     verdict ≡ No (wrong_line bytes (entries_part script g)) → IsAnswer script bytes verdict
@@ -296,7 +296,7 @@ nobodys_table_entry script bytes verdict fine g rest begun whole tables missing 
         by (inr (NextTableEntry e more next text)) = absurd (nobody e next (table_head_cut (length g.tables + 1) e rest f others more z text begins ends))
         by (inr (NextRest all same)) = absurd (missing all)
 
-wrong_table_entry : (script : ScriptText) (bytes : List ℕ) (verdict : Verdict) → IsScript script → (g : Histories) (e : TableEntry) (rest : List ℕ) → IsBegun script g.bus → IsWhole script g.bus →
+wrong_table_entry : (script : ScriptText) (bytes : List ℕ) (verdict : Judgement) → IsScript script → (g : Histories) (e : TableEntry) (rest : List ℕ) → IsBegun script g.bus → IsWhole script g.bus →
     AreBegunTables script (g.tables ++ e ∷ []) → bytes ≡ entries_part script g ++ rest → Begins rest (entry_head (length g.tables + 1) e.app) →
     ¬ Begins rest (table_entry_text (length g.tables + 1) e) → verdict ≡ No (wrong_line bytes (entries_part script (with_table_entry g e))) → IsAnswer script bytes verdict
 wrong_table_entry script bytes verdict fine g e rest begun whole tables is headed wrong says =
@@ -343,7 +343,7 @@ report_rest script g =
     regroup : (a e c t w : List ℕ) → a ++ (e ++ (c ++ (t ++ w))) ≡ ((a ++ e) ++ (c ++ t)) ++ w
     regroup a e c t w = simp append_assoc
 
-wrong_end : (script : ScriptText) (bytes : List ℕ) (verdict : Verdict) → IsScript script → (g : Histories) (rest : List ℕ) → IsRunOf script g → bytes ≡ entries_part script g ++ rest →
+wrong_end : (script : ScriptText) (bytes : List ℕ) (verdict : Judgement) → IsScript script → (g : Histories) (rest : List ℕ) → IsRunOf script g → bytes ≡ entries_part script g ++ rest →
     ¬ (bytes ≡ report script g) → verdict ≡ No (wrong_line bytes (report script g)) → IsAnswer script bytes verdict
 wrong_end script bytes verdict fine g rest run is wrong says =
     says_no script bytes (report script g) verdict says bad
@@ -397,4 +397,4 @@ judged_is_answered script bytes verdict fine (WrongTableEntry g e rest begun who
     wrong_table_entry script bytes verdict fine g e rest begun whole tables is headed wrong says
 judged_is_answered script bytes verdict fine (WrongEnd g rest run is wrong says) = wrong_end script bytes verdict fine g rest run is wrong says
 judged_is_answered script bytes verdict fine (Right g run same says) =
-    let P : Verdict → Type 0 = IsAnswer script bytes in subst P (sym says) (record { histories = g; run = run; same = same })
+    let P : Judgement → Type 0 = IsAnswer script bytes in subst P (sym says) (record { histories = g; run = run; same = same })

@@ -3,8 +3,8 @@ use Rattle.std.specs.Prelude.{◌≡◌, ℕ, ◌<◌, List, Some}
 use Rattle.app_script.specs.Script.{ScriptText}
 use Rattle.script_runs.specs.Histories.{Histories}
 use Rattle.script_runs.specs.Runs.{IsRunOf}
-use Rattle.run_check.specs.declared.verdict.Verdict.{Verdict}
-use Rattle.run_check.specs.declared.verdict.Verdict.TheVariants.{Yes, No}
+use Rattle.run_check.specs.declared.judgement.Judgement.{Judgement}
+use Rattle.run_check.specs.declared.judgement.Judgement.TheVariants.{Yes, No}
 use Rattle.run_check.specs.Begun.{IsBegun, AreBegunTables}
 use Rattle.run_check.specs.Openings.{Opens, first_lines, report}
 
@@ -36,6 +36,6 @@ pub record IsFirstWrong (script : ScriptText) (bytes : List ℕ) (line : ℕ) : 
 
 -- Yes where the bytes are the report of a run of the script; else No, with the number of the first
 -- line that is no run's
-abbrev pub IsAnswer : ScriptText → List ℕ → Verdict → Type 0
+abbrev pub IsAnswer : ScriptText → List ℕ → Judgement → Type 0
 IsAnswer script bytes Yes = IsGood script bytes
 IsAnswer script bytes (No line) = (¬ IsGood script bytes) × IsFirstWrong script bytes line

@@ -9,8 +9,8 @@ use Rattle.app_script.specs.Script.{ScriptText}
 use Rattle.app_script.specs.ScriptRanges.{IsScript}
 use Rattle.script_runs.specs.Histories.{Histories}
 use Rattle.script_runs.specs.Runs.{IsRunOf}
-use Rattle.run_check.specs.declared.verdict.Verdict.{Verdict}
-use Rattle.run_check.specs.declared.verdict.Verdict.TheVariants.{Yes, No}
+use Rattle.run_check.specs.declared.judgement.Judgement.{Judgement}
+use Rattle.run_check.specs.declared.judgement.Judgement.TheVariants.{Yes, No}
 use Rattle.run_check.specs.Begun.{AreBegunTables, IsBegun, IsWhole, AreWholeTables}
 use Rattle.run_check.specs.Checks.{IsAnswer}
 use Rattle.run_check.specs.Fronts.{wrong_line}
@@ -29,7 +29,7 @@ abbrev pub entries_part : ScriptText → Histories → List ℕ
 entries_part script histories = bus_part script histories.bus ++ tables_part histories.tables
 
 -- One of these holds of the bytes and the verdict on them.
-pub data IsJudged (script : ScriptText) (bytes : List ℕ) (verdict : Verdict) : Type 0 where
+pub data IsJudged (script : ScriptText) (bytes : List ℕ) (verdict : Judgement) : Type 0 where
   -- they don't begin with the first two lines
   NoHead : ¬ Begins bytes (head script) → verdict ≡ No (wrong_line bytes (head script)) →
       IsJudged script bytes verdict
@@ -90,5 +90,5 @@ pub data IsJudged (script : ScriptText) (bytes : List ℕ) (verdict : Verdict) :
 -- such a verdict is the answer
 abbrev pub JudgedIsAnswered : Type 0
 JudgedIsAnswered =
-    (script : ScriptText) (bytes : List ℕ) (verdict : Verdict) → IsScript script →
+    (script : ScriptText) (bytes : List ℕ) (verdict : Judgement) → IsScript script →
     IsJudged script bytes verdict → IsAnswer script bytes verdict

@@ -6,10 +6,10 @@
 //!
 //! ```text
 //! /// The first line of a report that is wrong, counted from 1.
-//! fn wrong_line(verdict: Verdict) -> Option<u32> {
-//!     match verdict {
-//!         Verdict::Yes => None,               // it is the report of a run of the script
-//!         Verdict::No(line) => Some(line),
+//! fn wrong_line(judgement: Judgement) -> Option<u32> {
+//!     match judgement {
+//!         Judgement::Yes => None,               // it is the report of a run of the script
+//!         Judgement::No(line) => Some(line),
 //!     }
 //! }
 //!
@@ -23,10 +23,10 @@
 #![tactic(auto)]
 
 mod laws;
-mod verdict;
+mod judgement;
 
 pub use laws::{
     judged_reports_are_answered, next_calls_are_known, next_table_calls_are_known, places_go_on,
     receipts_are_merged, reports_tell_runs, table_places_go_on, wrong_lines_are_first,
 };
-pub use verdict::Verdict;
+pub use judgement::Judgement;

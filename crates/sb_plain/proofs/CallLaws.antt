@@ -45,7 +45,7 @@ accepted_by limits w app call why here none = bare_by limits w app call None (he
 
 -- what is left of the records by a call that is answered so and leaves this
 abbrev pub left_at : Inside → ℕ → Call → BusAnswer → Whole → Recordings
-left_at a app call answer w = left (limits_of a.config) (reads_in (means a)) (means a).bus app call answer w.bus
+left_at a app call answer w = left (limits_of a.config) (means a).bus app call answer w.bus
 
 module _ (a : Inside) (store : Store) (acts : Vec Activity Global) (pools : Pools) (old : Plain) (app : ℕ) (call : Call) (answer : BusAnswer) (viewed : plain_of a ≡ old)
     (made : bare (limits_of a.config) (means a) app call ≡ (answer, means (record a { store = store; activities = acts; pools = pools }))) where
@@ -69,13 +69,13 @@ module _ (a : Inside) (store : Store) (acts : Vec Activity Global) (pools : Pool
   pub acts_quiet : is_quiet call ≡ true → leaves_desk call ≡ true → refusal_counter call answer ≡ [] →
       greater a.records.statistics.peak (in_use (limits_of a.config) (means b).bus) ≡ a.records.statistics.peak → Acts old (plain_of b) app call answer
   acts_quiet quiet leaves none covered =
-      acts_from (recordings_of (means a).bus) (still_left (limits_of a.config) (reads_in (means a)) (means a).bus app call answer (means b).bus quiet leaves none covered)
+      acts_from (recordings_of (means a).bus) (still_left (limits_of a.config) (means a).bus app call answer (means b).bus quiet leaves none covered)
 
   -- where nothing is told, and what is in use is looked at last
   pub acts_looked : is_quiet call ≡ true → leaves_desk call ≡ true → refusal_counter call answer ≡ [] → (records : Recordings) → records ≡ peaks_raised a.records (in_use_at store) →
       IsPoolOf (limits_of a.config) store.account → IsHeld store → Acts old (plain_of (record b { records = records })) app call answer
   acts_looked quiet leaves none records seen pool holds =
-      acts_seen (recordings_of (means a).bus) records (quiet_left (limits_of a.config) (reads_in (means a)) (means a).bus app call answer (means b).bus quiet leaves none) seen pool holds
+      acts_seen (recordings_of (means a).bus) records (quiet_left (limits_of a.config) (means a).bus app call answer (means b).bus quiet leaves none) seen pool holds
 
 -- where nothing changes, and nothing is told
 pub acts_still : (a : Inside) (old : Plain) (app : ℕ) (call : Call) (answer : BusAnswer) → plain_of a ≡ old → Keeps a → bare (limits_of a.config) (means a) app call ≡ (answer, means a) →
@@ -87,7 +87,7 @@ acts_still a old app call answer viewed keeps made quiet leaves none =
     subst P viewed
     (record {
       made = acts_with limits w app call (cause limits w.bus app call) answer w (recordings_of w.bus) refl made
-          (still_left limits (reads_in w) w.bus app call answer w.bus quiet leaves none keeps.covered);
+          (still_left limits w.bus app call answer w.bus quiet leaves none keeps.covered);
       limits = refl;
     })
 
@@ -130,6 +130,6 @@ refused_acts old new app call status which is covered why still leaves counter =
     subst P (sym is)
     (record {
       made = acts_with old.limits old.whole app call (Some (OfBus status)) (Sb status) old.whole ticked why still
-          (refused_left old.limits (reads_in old.whole) s app call status s which leaves counter covered);
+          (refused_left old.limits s app call status s which leaves counter covered);
       limits = refl;
     })

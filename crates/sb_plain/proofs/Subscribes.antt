@@ -13,7 +13,7 @@ use Rattle.fsw_base.specs.declared.statuses.SbStatus.TheVariants.{BadArgument, M
 use Rattle.ccsds_msg.specs.Message.{is_valid_id}
 use Rattle.bus_words.specs.declared.calls.BusAnswer.TheVariants.{Done}
 use Rattle.bus_words.specs.declared.history.Call.TheVariants.{Subscribe, Unsubscribe}
-use Rattle.bus_words.specs.Acts.{NextCount, reads_in, has_next, first_next}
+use Rattle.bus_words.specs.Acts.{NextCount, has_next, first_next}
 use Rattle.bus_words.specs.Held.{in_use}
 use Rattle.bus_words.specs.Bus.{State, Subscription, owns, is_subscribed, has_route, route}
 use Rattle.bus_words.specs.Machine.{subscribe_cause, refused_if}
@@ -188,10 +188,10 @@ id_last id valid = grind (arith, nat_tests)
 
 -- whether the pair was subscribed is told where it wasn't
 pub unsubscribed_left : (a : Inside) (app id pipe : ℕ) (t : State) (there : Bool) → there ≡ is_subscribed a.store.subscriptions id pipe →
-    left (limits_of a.config) (reads_in (means a)) (means a).bus app (Unsubscribe id pipe) Done t
+    left (limits_of a.config) (means a).bus app (Unsubscribe id pipe) Done t
     ≡ peaks_raised (cond there a.records (told_event a.records (NotSubscribed id pipe))) (in_use (limits_of a.config) t)
-unsubscribed_left a app id pipe t true is = leaves.unsubscribed_left (limits_of a.config) (reads_in (means a)) (means a).bus app id pipe t (sym is)
-unsubscribed_left a app id pipe t false is = not_subscribed_left (limits_of a.config) (reads_in (means a)) (means a).bus app id pipe t (sym is)
+unsubscribed_left a app id pipe t true is = leaves.unsubscribed_left (limits_of a.config) (means a).bus app id pipe t (sym is)
+unsubscribed_left a app id pipe t false is = not_subscribed_left (limits_of a.config) (means a).bus app id pipe t (sym is)
 
 -- The exits. --
 

@@ -1,13 +1,13 @@
 -- The core as its callers see it: its limits, the state, the loans of the last messages, and the
 -- descriptors of unsent buffers.
-use Rattle.std.specs.Prelude.{◌≡◌, ℕ, ◌≤◌, nat_le, nat_lt, Bool, true, List, [], length, IsTrue}
+use Rattle.std.specs.Prelude.{◌≡◌, ℕ, ◌≤◌, nat_le, nat_lt, Bool, true, List, length, IsTrue}
 use Rattle.fsw_base.specs.Limits.{Limits}
 use Rattle.housekeeping.specs.declared.names.CounterName.{CounterName}
 use Rattle.housekeeping.specs.Counters.{ticked}
 use Rattle.bus_words.specs.declared.calls.BusAnswer.{BusAnswer}
 use Rattle.bus_words.specs.declared.history.Call.{Call}
 use Rattle.bus_words.specs.declared.history.Call.TheVariants.{Create, Delete, SetOpts, GetOpts, Find, PipeName, Subscribe, Unsubscribe, Transmit, Receive, Pend, Look, Allocate, TransmitBuffer, Release, PoolCreate, PoolGet, PoolPut, PoolFigures, Register, SendEvent, ResetFilter, LogMode, ClearLog, Housekeeping, Figures, End}
-use Rattle.bus_words.specs.Bus.{State, standing_of, route, drops}
+use Rattle.bus_words.specs.Bus.{State, any_send, standing_of, route, drops}
 use Rattle.bus_words.specs.Machine.{may_call}
 use Rattle.bus_words.specs.Acts.{Whole, act}
 use Rattle.bus_store.specs.Store.{LastLoan, BufferDesc}
@@ -40,8 +40,7 @@ with_tick core which = record core {
 -- message it is
 abbrev pub drops_for : State → ℕ → ℕ → ℕ
 drops_for s app id =
-    drops (record { sender = app; number = 0; asked = 0; message = [] }) (route s.subscriptions id)
-    s.pipes
+    drops (any_send app) (route s.subscriptions id) s.pipes
 
 -- a name of at most 64 bytes, a message of at most 65542, an event's text of at most 200, a mode of
 -- 0 or 1; what a buffer may have is bounded by its size

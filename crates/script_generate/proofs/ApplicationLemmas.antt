@@ -4,14 +4,14 @@ use Rattle.std.proofs.lemmas.Fmt.{decimal_digit}
 use Rattle.std.proofs.lemmas.List.Sums.{fold-append}
 use Rattle.script_lines.specs.declared.line.Line.{Line}
 use Rattle.script_settings.specs.declared.account.Account.{Account}
-use Rattle.script_settings.specs.Accounts.{account_of, no_calls, counted, charge_of, sizes_after}
+use Rattle.script_settings.specs.Accounts.{account_of, no_calls, with_line, charge_of, sizes_after}
 use Rattle.app_script.specs.Script.{Application}
 use Rattle.script_generate.specs.Generated.{first_lines, actions, application, applications}
 use Rattle.script_generate.proofs.ActionLemmas.{numbered_name}
 use Rattle.script_generate.proofs.LineLemmas.{actions_few, actions_light}
 
 -- the charge of the lines before the actions is that of the pipe's name
-first_light : (app : ℕ) → app < 10 → (fold counted no_calls (first_lines app)).bytes ≡ 2
+first_light : (app : ℕ) → app < 10 → (fold with_line no_calls (first_lines app)).bytes ≡ 2
 unfolding first_lines charge_of sizes_after
 first_light app digit = omega (arith, ap (λ (name : List ℕ). length name) (decimal_digit app digit))
 
@@ -23,7 +23,7 @@ pub lines_light : (app number : ℕ) → app < 10 → (account_of (first_lines a
 unfolding account_of
 lines_light app number digit =
     let first = first_lines app in let others = (actions 250 number).0 in
-    omega (arith, ap (λ (a : Account). a.bytes) (fold-append counted no_calls first others), first_light app digit, actions_light 250 number (fold counted no_calls first))
+    omega (arith, ap (λ (a : Account). a.bytes) (fold-append with_line no_calls first others), first_light app digit, actions_light 250 number (fold with_line no_calls first))
 
 -- an application is what was pushed and drawn for it
 pub application_pushed : (app number : ℕ) (name : List ℕ) (none first lines : List Line) → name ≡ 71 ∷ (48 + app) ∷ [] → app < 10 → none ≡ [] → first ≡ none ++ first_lines app → lines ≡ first ++ (actions 250 number).0

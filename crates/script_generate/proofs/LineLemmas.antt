@@ -8,7 +8,7 @@ use Rattle.std.proofs.lemmas.List.Sums.{fold-append}
 use Rattle.script_lines.specs.declared.line.Line.TheVariants.{Send, Allocate, Form, TransmitBuffer}
 use Rattle.script_lines.specs.Ranges.{is_readable}
 use Rattle.script_settings.specs.declared.account.Account.{Account}
-use Rattle.script_settings.specs.Accounts.{counted, charge_of, sizes_after}
+use Rattle.script_settings.specs.Accounts.{with_line, charge_of, sizes_after}
 use Rattle.script_generate.specs.declared.draws.Draft.{Draft}
 use Rattle.script_generate.specs.declared.draws.Kind.{Kind}
 use Rattle.script_generate.specs.declared.draws.Kind.TheVariants as kinds
@@ -80,19 +80,19 @@ noted_size : (sizes : List ℕ) (size : ℕ) → slice_index (slice_set sizes 0 
 noted_size [] size = omega arith
 noted_size (first ∷ sizes) size = omega arith
 
-kind_light : (kind : Kind) (number : ℕ) (account : Account) → (fold counted account (action_of kind number).0).bytes ≤ account.bytes + 64
+kind_light : (kind : Kind) (number : ℕ) (account : Account) → (fold with_line account (action_of kind number).0).bytes ≤ account.bytes + 64
 unfolding action_of charge_of sizes_after
 kind_light kinds.Send number account = omega (arith, (draft_small number).greatest)
 kind_light kinds.SendBuffer number account = omega (arith, (draft_small number).greatest, noted_size account.sizes (draft number).0.size)
 kind_light kinds.Receive number account = omega arith
 
-action_light : (number : ℕ) (account : Account) → (fold counted account (action number).0).bytes ≤ account.bytes + 64
+action_light : (number : ℕ) (account : Account) → (fold with_line account (action number).0).bytes ≤ account.bytes + 64
 unfolding action
 action_light number account = kind_light (kind_of (draw 4 number).0) (draw 4 number).1 account
 
-pub actions_light : (count number : ℕ) (account : Account) → (fold counted account (actions count number).0).bytes ≤ account.bytes + 64 * count
+pub actions_light : (count number : ℕ) (account : Account) → (fold with_line account (actions count number).0).bytes ≤ account.bytes + 64 * count
 unfolding actions
 actions_light zero number account = omega arith
 actions_light (suc count) number account =
     let lines = (action number).0 in let others = (actions count (action number).1).0 in
-    omega (arith, ap (λ (a : Account). a.bytes) (fold-append counted account lines others), action_light number account, actions_light count (action number).1 (fold counted account lines))
+    omega (arith, ap (λ (a : Account). a.bytes) (fold-append with_line account lines others), action_light number account, actions_light count (action number).1 (fold with_line account lines))

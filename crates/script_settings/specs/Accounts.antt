@@ -41,8 +41,8 @@ sizes_after sizes (Allocate buf size) = slice_set sizes buf size
 sizes_after sizes line = sizes
 
 -- one call line more
-abbrev pub counted : Account → Line → Account
-counted account line = record {
+abbrev pub with_line : Account → Line → Account
+with_line account line = record {
   calls = account.calls + 1;
   waits = account.waits + waits_of line;
   bytes = account.bytes + charge_of account line;
@@ -52,7 +52,7 @@ counted account line = record {
 
 -- what these call lines take
 unfoldable pub account_of : List Line → Account
-account_of lines = fold counted no_calls lines
+account_of lines = fold with_line no_calls lines
 
 -- what an application with this account may add to a run: an entry for each call line, one more for
 -- each that waits, and one for its end

@@ -77,7 +77,7 @@ fn set_size(sizes: &mut [u32; REGISTERS], buf: u32, size: u32)
 }
 
 impl Account {
-    ghost use Rattle.script_settings.specs.Accounts.{no_calls, charge_of, counted, budget_in};
+    ghost use Rattle.script_settings.specs.Accounts.{no_calls, charge_of, with_line, budget_in};
 
     /// The account before the first call line: all of it is 0.
     pub fn new() -> Account
@@ -146,7 +146,7 @@ impl Account {
         requires waits { self.old.waits < 2 ^ 31 }
         requires buffers { self.old.buffers < 2 ^ 31 }
         requires bytes { self.old.bytes + charge < 2 ^ 32 }
-        ensures { self.new ≡ counted self.old line.now }
+        ensures { self.new ≡ with_line self.old line.now }
     {
         self.calls += 1;
         self.waits += waits(line);

@@ -6,7 +6,7 @@ use Rattle.std.proofs.lemmas.List.Elements.{All-weaker, filter-append}
 use Rattle.std.proofs.lemmas.List.Folds.{map_fixed}
 use Rattle.subscriptions.specs.declared.place.Place.{Place}
 use Rattle.subscriptions.specs.declared.words.SubNo.{SubNo}
-use Rattle.subscriptions.specs.Subs.{Subscription, goes_by}
+use Rattle.subscriptions.specs.Subs.{LiveSubscription, goes_by}
 use Rattle.subscriptions.specs.Inside.{held_in, numbered, live_upto, number_in, number_at}
 use Rattle.subscriptions.proofs.Lists.{filter_same}
 use Rattle.subscriptions.proofs.LiveSubscriptions.{in_range, numbered_none, numbered_one, numbered_beside, live_beside}
@@ -55,7 +55,7 @@ numbered_removed slots slot number p other some here its others (inr ne) =
     numbered_beside other 0 slot slots None (λ e. ne (sym n ∙ e)) (λ e. omega (arith, some, e))
     ∙ sym (filter_same (λ s. not (eqb s.number number)) (numbered other 0 slots) (All-weaker (Stands slots 0 other) (λ s. not (eqb s.number number) ≡ true) passes (numbered other 0 slots) (numbered_stand other 0 slots)))
   where
-    passes : (s : Subscription) → Stands slots 0 other s → not (eqb s.number number) ≡ true
+    passes : (s : LiveSubscription) → Stands slots 0 other s → not (eqb s.number number) ≡ true
     passes s st = ap not (differ s.number number (λ e. ne (sym e ∙ (ap (λ x. x.number) st.is ∙ st.its))))
 
 -- a slot that is freed takes out the subscription of its number
@@ -86,7 +86,7 @@ live_shorter slots slot number p (suc upto) some within here its others = settle
         omega (arith, ih, length-append (live_upto (set slots slot None) upto) (numbered (suc upto) 0 (set slots slot None)), length-append (live_upto slots upto) (numbered (suc upto) 0 slots), ap length same)
 
 -- a slot whose subscription changes and keeps its number changes that one alone
-pub live_changed : (slots : List (Option Place)) (sub : SubNo) (p q : Place) (change : Subscription → Subscription) (upto : ℕ) → get_or slots sub.slot None ≡ Some p → p.number ≡ sub.number → q.number ≡ sub.number → ((k : ℕ) → k ≢ sub.slot → number_at slots k ≢ sub.number) → held_in sub.slot q ≡ change (held_in sub.slot p)
+pub live_changed : (slots : List (Option Place)) (sub : SubNo) (p q : Place) (change : LiveSubscription → LiveSubscription) (upto : ℕ) → get_or slots sub.slot None ≡ Some p → p.number ≡ sub.number → q.number ≡ sub.number → ((k : ℕ) → k ≢ sub.slot → number_at slots k ≢ sub.number) → held_in sub.slot q ≡ change (held_in sub.slot p)
     → live_upto (set slots sub.slot (Some q)) upto ≡ map (λ s. cond (goes_by sub s) (change s) s) (live_upto slots upto)
 live_changed slots sub p q change zero here its stays others makes = refl
 live_changed slots sub p q change (suc upto) here its stays others makes =
@@ -112,6 +112,6 @@ live_changed slots sub p q change (suc upto) here its stays others makes =
         numbered_beside (suc upto) 0 sub.slot slots (Some q) (λ e. ne (sym n ∙ e)) (λ e. ne (sym stays ∙ e))
         ∙ sym (map_fixed (λ s. cond (goes_by sub s) (change s) s) (numbered (suc upto) 0 slots) (All-weaker (Stands slots 0 (suc upto)) (λ s. cond (goes_by sub s) (change s) s ≡ s) stay (numbered (suc upto) 0 slots) (numbered_stand (suc upto) 0 slots)))
       where
-        stay : (s : Subscription) → Stands slots 0 (suc upto) s → cond (goes_by sub s) (change s) s ≡ s
+        stay : (s : LiveSubscription) → Stands slots 0 (suc upto) s → cond (goes_by sub s) (change s) s ≡ s
         stay s st =
             ap (λ b. cond b (change s) s) (one_differs s.slot sub.slot s.number sub.number (λ e. ne (sym e ∙ (ap (λ x. x.number) st.is ∙ st.its))))

@@ -7,21 +7,21 @@ use Rattle.std.proofs.lemmas.List.Elements.{All-nil, All-cons, All-append, All-w
 use Rattle.std.proofs.lemmas.List.Folds.{find-append}
 use Rattle.subscriptions.specs.declared.place.Place.{Place}
 use Rattle.subscriptions.specs.declared.words.SubNo.{SubNo}
-use Rattle.subscriptions.specs.Subs.{Subscription, goes_by}
+use Rattle.subscriptions.specs.Subs.{LiveSubscription, goes_by}
 use Rattle.subscriptions.specs.Inside.{held_in, numbered, live_upto, number_at}
 use Rattle.subscriptions.proofs.Lists.{find_none}
 use Rattle.subscriptions.proofs.LiveSubscriptions.{numbered_one}
 use Rattle.subscriptions.proofs.Numbers.{zero_more, equal, both_equal, one_differs}
 
 -- one of these slots, numbered on from the first, holds the subscription, whose number this is
-pub record Stands (slots : List (Option Place)) (first number : ℕ) (s : Subscription) : Type 0 where
+pub record Stands (slots : List (Option Place)) (first number : ℕ) (s : LiveSubscription) : Type 0 where
   pub above : ℕ
   pub place : Place
   pub here : get_or slots above None ≡ Some place
   pub is : s ≡ held_in (first + above) place
   pub its : place.number ≡ number
 
-further : (slots : List (Option Place)) (slot : Option Place) (first number : ℕ) (s : Subscription) → Stands slots (first + 1) number s → Stands (slot ∷ slots) first number s
+further : (slots : List (Option Place)) (slot : Option Place) (first number : ℕ) (s : LiveSubscription) → Stands slots (first + 1) number s → Stands (slot ∷ slots) first number s
 further slots slot first number s st = record {
   above = suc st.above;
   place = st.place;
@@ -51,14 +51,14 @@ numbered_stand number first (Some p ∷ slots) =
     choose false e rest = rest
 
 -- a live subscription whose number is at most this one
-pub record StandsUpto (slots : List (Option Place)) (upto : ℕ) (s : Subscription) : Type 0 where
+pub record StandsUpto (slots : List (Option Place)) (upto : ℕ) (s : LiveSubscription) : Type 0 where
   pub place : Place
   pub here : get_or slots s.slot None ≡ Some place
   pub is : s ≡ held_in s.slot place
   pub some : 0 < s.number
   pub within : s.number ≤ upto
 
-upto_from : (slots : List (Option Place)) (upto number : ℕ) (s : Subscription) → 0 < number → number ≤ upto → Stands slots 0 number s → StandsUpto slots upto s
+upto_from : (slots : List (Option Place)) (upto number : ℕ) (s : LiveSubscription) → 0 < number → number ≤ upto → Stands slots 0 number s → StandsUpto slots upto s
 upto_from slots upto number s some within st =
     let slot : s.slot ≡ st.above = ap (λ x. x.slot) st.is ∙ zero_more st.above in
     let its : s.number ≡ number = ap (λ x. x.number) st.is ∙ st.its in
@@ -77,7 +77,7 @@ live_stand slots (suc upto) =
     (All-weaker (StandsUpto slots upto) (StandsUpto slots (suc upto)) wider (live_upto slots upto) (live_stand slots upto))
     (All-weaker (Stands slots 0 (suc upto)) (StandsUpto slots (suc upto)) (λ s st. upto_from slots (suc upto) (suc upto) s (omega arith) (omega arith) st) (numbered (suc upto) 0 slots) (numbered_stand (suc upto) 0 slots))
   where
-    wider : (s : Subscription) → StandsUpto slots upto s → StandsUpto slots (suc upto) s
+    wider : (s : LiveSubscription) → StandsUpto slots upto s → StandsUpto slots (suc upto) s
     wider s st = record { place = st.place; here = st.here; is = st.is; some = st.some; within = omega (arith, st.within) }
 
 -- the live subscription in a slot is the one that goes by its slot and number
@@ -104,7 +104,7 @@ pub find_ended : (slots : List (Option Place)) (sub : SubNo) (upto : ℕ) → ((
 find_ended slots sub upto none =
     find_none (goes_by sub) (live_upto slots upto) (All-weaker (StandsUpto slots upto) (λ s. goes_by sub s ≡ false) apart (live_upto slots upto) (live_stand slots upto))
   where
-    apart : (s : Subscription) → StandsUpto slots upto s → goes_by sub s ≡ false
+    apart : (s : LiveSubscription) → StandsUpto slots upto s → goes_by sub s ≡ false
     apart s st = choose (eqb s.slot sub.slot) (eqb s.number sub.number) refl refl
       where
         choose : (a b : Bool) → eqb s.slot sub.slot ≡ a → eqb s.number sub.number ≡ b → (a && b) ≡ false

@@ -3,7 +3,7 @@ use Rattle.std.proofs.Common.{◌≡◌, ◌≢◌, ℕ, zero, suc, ◌+◌, ◌
 use Rattle.std.specs.List.{All}
 use Rattle.std.proofs.lemmas.List.Elements.{All-weaker, All-head, All-tail}
 use Rattle.subscriptions.specs.declared.place.Place.{Place}
-use Rattle.subscriptions.specs.Subs.{Subscription, IsRising, AreInOrder}
+use Rattle.subscriptions.specs.Subs.{LiveSubscription, IsRising, AreInOrder}
 use Rattle.subscriptions.specs.Inside.{held_in, numbered, live_upto, number_at, AreKept}
 use Rattle.subscriptions.proofs.LiveSubscriptions.{in_range, numbered_none}
 use Rattle.subscriptions.proofs.Finds.{StandsUpto, live_stand}
@@ -34,7 +34,7 @@ numbered_rising number first (Some p ∷ slots) distinct =
         (omega (arith, its), subst (IsRising p.number) (sym none) tt)
     choose rest false e = rest
 
-rising_append : (below upto : ℕ) (xs ys : List Subscription) → below ≤ upto → IsRising below xs → All (λ s. s.number ≤ upto) xs → IsRising upto ys → IsRising below (xs ++ ys)
+rising_append : (below upto : ℕ) (xs ys : List LiveSubscription) → below ≤ upto → IsRising below xs → All (λ s. s.number ≤ upto) xs → IsRising upto ys → IsRising below (xs ++ ys)
 rising_append below upto [] [] le front all back = tt
 rising_append below upto [] (y ∷ ys) le front all back = (omega (arith, le, back.0), back.1)
 rising_append below upto (x ∷ xs) ys le front all back =
@@ -55,5 +55,5 @@ in_order slots free made room kept few = record {
   fit = omega (arith, kept.full, few);
 }
   where
-    inside : (s : Subscription) → s.slot < length slots → s.slot < room
+    inside : (s : LiveSubscription) → s.slot < length slots → s.slot < room
     inside s h = omega (arith, h, few)

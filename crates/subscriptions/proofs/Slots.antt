@@ -5,7 +5,7 @@ use Rattle.std.proofs.lemmas.List.Elements.{All-weaker}
 use Rattle.std.proofs.lemmas.List.Folds.{list_any_none}
 use Rattle.subscriptions.specs.declared.place.Place.{Place}
 use Rattle.subscriptions.specs.declared.words.SubNo.{SubNo}
-use Rattle.subscriptions.specs.Subs.{Subscription, goes_by}
+use Rattle.subscriptions.specs.Subs.{LiveSubscription, goes_by}
 use Rattle.subscriptions.specs.Inside.{held_in, live_upto, number_in, number_at, held_at, AreFree, AreKept}
 use Rattle.subscriptions.proofs.Finds.{StandsUpto, live_stand, find_live, find_ended}
 use Rattle.subscriptions.proofs.LiveSubscriptions.{in_range}
@@ -53,7 +53,7 @@ live_here slots free made sub p kept here its =
 pub held_if_live : (slots : List (Option Place)) (made : ℕ) (sub : SubNo) (held : Option Place) → held ≡ held_at slots sub.slot sub.number → IsSome (find (goes_by sub) (live_upto slots made)) → IsSome held
 held_if_live slots made sub None is live =
     let none = live_ended slots made sub (sym is) in
-    let never : IsSome {T = Subscription} None = subst IsSome none live in
+    let never : IsSome {T = LiveSubscription} None = subst IsSome none live in
     absurd cc
 held_if_live slots made sub (Some p) is live = refl
 
@@ -62,7 +62,7 @@ pub not_in_use : (slots : List (Option Place)) (free : List ℕ) (made slot : �
 not_in_use slots free made slot unused =
     list_any_none (λ s. eqb s.slot slot) (live_upto slots made) (All-weaker (StandsUpto slots made) (λ s. eqb s.slot slot ≡ false) elsewhere (live_upto slots made) (live_stand slots made))
   where
-    elsewhere : (s : Subscription) → StandsUpto slots made s → eqb s.slot slot ≡ false
+    elsewhere : (s : LiveSubscription) → StandsUpto slots made s → eqb s.slot slot ≡ false
     elsewhere s st = differ s.slot slot (λ e. never e)
       where
         never : s.slot ≡ slot → ⊥
@@ -76,7 +76,7 @@ pub none_of_pipe : (slots : List (Option Place)) (made pipe : ℕ) → ((k : ℕ
 none_of_pipe slots made pipe none =
     list_any_none (λ s. eqb s.pipe pipe) (live_upto slots made) (All-weaker (StandsUpto slots made) (λ s. eqb s.pipe pipe ≡ false) foreign (live_upto slots made) (live_stand slots made))
   where
-    foreign : (s : Subscription) → StandsUpto slots made s → eqb s.pipe pipe ≡ false
+    foreign : (s : LiveSubscription) → StandsUpto slots made s → eqb s.pipe pipe ≡ false
     foreign s st = differ s.pipe pipe (λ e. none s.slot st.place st.here (sym (ap (λ x. x.pipe) st.is) ∙ e))
 
 -- what a slot holds is live, and goes by the slot and its number

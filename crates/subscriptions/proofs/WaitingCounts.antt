@@ -3,7 +3,7 @@ use Rattle.std.proofs.Common.{◌≡◌, ℕ, List, length, get_or, set, map, co
 use Rattle.std.proofs.lemmas.List.{length-set, length-map, set-get_or}
 use Rattle.subscriptions.specs.declared.place.Place.{Place}
 use Rattle.subscriptions.specs.declared.words.SubNo.{SubNo}
-use Rattle.subscriptions.specs.Subs.{Subscription, Subscribed, goes_by, live_at, with_change}
+use Rattle.subscriptions.specs.Subs.{LiveSubscription, Subscribed, goes_by, live_at, with_change}
 use Rattle.subscriptions.specs.Inside.{held_in, live_upto, held_at, with_waiting, recounted, AreKept}
 use Rattle.subscriptions.proofs.Changes.{live_changed}
 use Rattle.subscriptions.proofs.Slots.{held_here, held_elsewhere, live_ended, apart}
@@ -16,14 +16,14 @@ abbrev pub shown : ℕ → List (Option Place) → ℕ → Subscribed
 shown room slots made = record { room = room; made = made; live = live_upto slots made }
 
 -- another count in a live subscription's slot changes that subscription alone
-live_waiting : (slots : List (Option Place)) (free : List ℕ) (made : ℕ) (sub : SubNo) (p : Place) (waiting : ℕ) (change : Subscription → Subscription) → AreKept slots free made → held_at slots sub.slot sub.number ≡ Some p → held_in sub.slot (record p { waiting = waiting }) ≡ change (held_in sub.slot p)
+live_waiting : (slots : List (Option Place)) (free : List ℕ) (made : ℕ) (sub : SubNo) (p : Place) (waiting : ℕ) (change : LiveSubscription → LiveSubscription) → AreKept slots free made → held_at slots sub.slot sub.number ≡ Some p → held_in sub.slot (record p { waiting = waiting }) ≡ change (held_in sub.slot p)
     → live_upto (set slots sub.slot (with_waiting waiting (get_or slots sub.slot None))) made ≡ map (λ s. cond (goes_by sub s) (change s) s) (live_upto slots made)
 live_waiting slots free made sub p waiting change kept held makes =
     let h = held_here slots sub.slot sub.number p held in
     ap (λ o. live_upto (set slots sub.slot (with_waiting waiting o)) made) h.0
     ∙ live_changed slots sub p (record p { waiting = waiting }) change made h.0 h.1 h.1 (apart slots free made sub.slot sub.number p kept h.0 h.1) makes
 
-shown_waiting : (room : ℕ) (after slots : List (Option Place)) (free : List ℕ) (made : ℕ) (sub : SubNo) (p : Place) (waiting : ℕ) (change : Subscription → Subscription) → AreKept slots free made → held_at slots sub.slot sub.number ≡ Some p → held_in sub.slot (record p { waiting = waiting }) ≡ change (held_in sub.slot p) → after ≡ set slots sub.slot (with_waiting waiting (get_or slots sub.slot None))
+shown_waiting : (room : ℕ) (after slots : List (Option Place)) (free : List ℕ) (made : ℕ) (sub : SubNo) (p : Place) (waiting : ℕ) (change : LiveSubscription → LiveSubscription) → AreKept slots free made → held_at slots sub.slot sub.number ≡ Some p → held_in sub.slot (record p { waiting = waiting }) ≡ change (held_in sub.slot p) → after ≡ set slots sub.slot (with_waiting waiting (get_or slots sub.slot None))
     → shown room after made ≡ with_change (shown room slots made) sub change
 shown_waiting room after slots free made sub p waiting change kept held makes is =
     ap (λ xs. shown room xs made) is
@@ -36,7 +36,7 @@ kept_after after slots free made sub p waiting kept held is =
     (kept_waiting slots free made sub.slot waiting kept (ap length changed ∙ length-map (live_upto slots made) (λ s. cond (goes_by sub s) (record s { waiting = waiting }) s)))
 
 -- a change of one that has ended changes nothing
-unchanged : (subs : Subscribed) (sub : SubNo) (change : Subscription → Subscription) → live_at subs sub ≡ None → subs ≡ with_change subs sub change
+unchanged : (subs : Subscribed) (sub : SubNo) (change : LiveSubscription → LiveSubscription) → live_at subs sub ≡ None → subs ≡ with_change subs sub change
 unchanged subs sub change none = ap (λ xs. let v : Subscribed = record subs { live = xs } in v) (sym (map_none (goes_by sub) change subs.live none))
 
 -- what is left where the count in a slot changes if the slot has the subscription's number

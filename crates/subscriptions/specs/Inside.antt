@@ -2,10 +2,10 @@
 use Rattle.std.specs.Prelude.{◌≡◌, ℕ, zero, suc, ◌+◌, ◌==◌, ◌<◌, ◌≤◌, List, [], ◌∷◌, ◌++◌, length, Option, Some, None, is_some, true, slice_index, slice_index_or, if◌then◌else◌}
 use Rattle.subscriptions.specs.declared.place.Place.{Place}
 use Rattle.subscriptions.specs.declared.words.SubRow.{SubRow}
-use Rattle.subscriptions.specs.Subs.{Subscription}
+use Rattle.subscriptions.specs.Subs.{LiveSubscription}
 
 -- the subscription that a slot holds
-abbrev pub held_in : ℕ → Place → Subscription
+abbrev pub held_in : ℕ → Place → LiveSubscription
 held_in slot p =
     record {
       slot = slot;
@@ -32,7 +32,7 @@ row_in p =
 
 -- the subscription of this number, where one of these slots holds it; they are numbered on from the
 -- first
-abbrev pub numbered : ℕ → ℕ → List (Option Place) → List Subscription
+abbrev pub numbered : ℕ → ℕ → List (Option Place) → List LiveSubscription
 numbered number slot [] = []
 numbered number slot (None ∷ slots) = numbered number (slot + 1) slots
 numbered number slot (Some p ∷ slots) =
@@ -40,7 +40,7 @@ numbered number slot (Some p ∷ slots) =
     else numbered number (slot + 1) slots
 
 -- the live subscriptions with numbers up to this one, in order of number
-abbrev pub live_upto : List (Option Place) → ℕ → List Subscription
+abbrev pub live_upto : List (Option Place) → ℕ → List LiveSubscription
 live_upto slots zero = []
 live_upto slots (suc number) = live_upto slots number ++ numbered (suc number) 0 slots
 

@@ -8,9 +8,9 @@
 //! ```
 //! /// A subscription that lets one message wait admits a first one, and is over its limit once
 //! /// that one waits.
-//! fn second_verdict(subs: &mut Subs) -> Verdict
+//! fn second_admission(subs: &mut Subs) -> Admission
 //!     requires { subs.old ≡ record { room = 1; made = 0; live = [] } }
-//!     ensures { result ≡ Verdict.OverLimit }
+//!     ensures { result ≡ Admission.OverLimit }
 //! {
 //!     let sub = subs.add(0x0801, 7, 0, 1, Scope::Global);
 //!     subs.queued(sub);
@@ -21,7 +21,7 @@
 //! Proved: a list in order of number. `add` puts one at the end with a number never given before,
 //! `remove` takes out that one; `queued` and `unqueued` move its count of waiting messages by one,
 //! or change nothing if it has ended; `add_waiting` counts one more of a live one. `admit` answers
-//! OverLimit if and only if a live one's count has reached its limit, and `verdict` says the same
+//! OverLimit if and only if a live one's count has reached its limit, and `admission` says the same
 //! of what `at` answers. `at` is exact. `any_of_pipe` answers a live one of the pipe, if there is
 //! any, and leaves open which. Numbers rise along the list (`recall_order`). By reading: how many
 //! slots a call looks at.
@@ -34,4 +34,4 @@ mod subs;
 mod words;
 
 pub use subs::Subs;
-pub use words::{SubNo, SubRow, Verdict};
+pub use words::{SubNo, SubRow, Admission};

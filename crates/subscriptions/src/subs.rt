@@ -2,11 +2,11 @@
 ghost use Rattle.std.specs.Prelude.{◌≡◌, ℕ, ◌==◌, ◌+◌, ◌-◌, ◌<◌, ◌≤◌, ◌^◌, ◌↔◌, false, Some, None, List, [], ◌∷◌, ◌++◌, length, map, replicate, slice_index, slice_index_or, vec_capacity, option_map, IsSome, IsTrue, IfOk, IfSome};
 ghost use Rattle.std.specs.List.{list_any};
 ghost use Rattle.std.specs.Option.{ForSome};
-ghost use Rattle.subscriptions.specs.Subs.{Subscribed, Subscription, live_at, row_of, verdict_at, one_more, one_fewer, with_change, without, AreInOrder};
+ghost use Rattle.subscriptions.specs.Subs.{Subscribed, LiveSubscription, live_at, row_of, admission_at, one_more, one_fewer, with_change, without, AreInOrder};
 ghost use Rattle.subscriptions.specs.Inside.{held_at, recounted, with_slot, with_free};
 
 use crate::place::Place;
-use crate::words::{SubNo, SubRow, Verdict};
+use crate::words::{SubNo, SubRow, Admission};
 use fsw_base::Scope;
 use ruled_out::{ruled_out, surely_some};
 use std::alloc::{AllocError, Global};
@@ -145,12 +145,12 @@ impl Subs {
 
     /// What the limit of a subscription says of one message more; one that has ended has no limit.
     /// By the code, it takes a constant time.
-    pub fn admit(&self, sub: SubNo) -> Verdict
-        ensures { result ≡ verdict_at self.now sub }
+    pub fn admit(&self, sub: SubNo) -> Admission
+        ensures { result ≡ admission_at self.now sub }
     {
         match held(&self.slots, sub) {
-            Some(place) => place.row().verdict(),
-            None => Verdict::Inside,
+            Some(place) => place.row().admission(),
+            None => Admission::Inside,
         }
     }
 

@@ -1,6 +1,6 @@
 //! What calls take and answer.
 ghost use Rattle.std.specs.Prelude.{◌≡◌};
-ghost use Rattle.subscriptions.specs.Subs.{verdict_of};
+ghost use Rattle.subscriptions.specs.Subs.{admission_of};
 
 use fsw_base::Scope;
 
@@ -32,20 +32,20 @@ pub struct SubRow {
 
 impl SubRow {
     /// What the limit says of one message more.
-    pub fn verdict(self) -> Verdict
-        ensures { result ≡ verdict_of self }
+    pub fn admission(self) -> Admission
+        ensures { result ≡ admission_of self }
     {
         if self.limit <= self.waiting {
-            Verdict::OverLimit
+            Admission::OverLimit
         } else {
-            Verdict::Inside
+            Admission::Inside
         }
     }
 }
 
 /// What a subscription's limit says of one message more.
 #[derive(Clone, Copy, Debug, PartialEq, Eq)]
-pub enum Verdict {
+pub enum Admission {
     /// Fewer messages wait than the limit.
     Inside,
     /// At least as many messages wait as the limit says.

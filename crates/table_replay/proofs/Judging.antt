@@ -6,7 +6,7 @@ use Rattle.run_report.specs.TableText.{table_entries_text, table_entry_text}
 use Rattle.app_script.specs.Script.{ScriptText}
 use Rattle.app_script.specs.ScriptRanges.{IsScript}
 use Rattle.script_runs.specs.Histories.{Histories}
-use Rattle.run_check.specs.declared.verdict.Verdict.TheVariants.{No}
+use Rattle.run_check.specs.declared.judgement.Judgement.TheVariants.{No}
 use Rattle.run_check.specs.Begun.{IsBegun, IsWhole}
 use Rattle.run_check.specs.Checks.{IsAnswer}
 use Rattle.run_check.specs.Fronts.{line_ends, wrong_line}

@@ -4,7 +4,7 @@ use Rattle.bus_words.specs.declared.history.Entry.{Entry as BusEntry}
 use Rattle.tbl_words.specs.declared.history.Entry.{Entry}
 use Rattle.app_script.specs.Script.{ScriptText}
 use Rattle.run_report.specs.TableText.{table_entries_text}
-use Rattle.run_check.specs.declared.verdict.Verdict.TheVariants.{No}
+use Rattle.run_check.specs.declared.judgement.Judgement.TheVariants.{No}
 use Rattle.run_check.specs.Begun.{AreBegunTables, AreWholeTables, IsBegun, IsWhole}
 use Rattle.run_check.specs.Checks.{IsAnswer}
 use Rattle.run_check.specs.Fronts.{line_ends}

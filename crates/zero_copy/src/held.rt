@@ -8,7 +8,7 @@
 //!            +---------------------------------------------------+
 //! ```
 ghost use Rattle.std.specs.Prelude.{◌≡◌, ℕ, ◌+◌, ◌-◌, ◌^◌, ◌<◌, ◌≤◌, ◌↔◌, [], ◌∷◌, length, replicate, slice_set, drop, IsTrue, IsNone, IfOk, IfSome};
-ghost use Rattle.zero_copy.specs.Held.{Held, held_by, IsHeldBy, IsLetGo, AreApart, without};
+ghost use Rattle.zero_copy.specs.Held.{HeldDescs, held_by, IsHeldBy, IsLetGo, AreApart, without};
 
 use bucket_list::Links;
 use fsw_base::AppNo;
@@ -38,9 +38,9 @@ pub struct HeldLists {
 }
 
 impl Model for HeldLists {
-    ghost use Rattle.zero_copy.specs.Held.{Held};
+    ghost use Rattle.zero_copy.specs.Held.{HeldDescs};
 
-    ghost Value = { Held };
+    ghost Value = { HeldDescs };
 
     ghost use Rattle.zero_copy.specs.Inside.{rings, AreHeld};
 

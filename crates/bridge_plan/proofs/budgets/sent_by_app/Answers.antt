@@ -1,6 +1,6 @@
 use Rattle.std.proofs.Common.{fold, ap, ◌∙◌, arith}
 use Rattle.script_settings.specs.declared.account.Account.{Account}
-use Rattle.script_settings.specs.Accounts.{counted}
+use Rattle.script_settings.specs.Accounts.{with_line}
 use Rattle.app_script.proofs.LineCounts.{counted_none}
 use Rattle.app_script.proofs.PartLemmas.{waits_few, buffers_few}
 use Rattle.bridge_plan.specs.Sends.{sent_from}
@@ -13,7 +13,7 @@ loop-i-init c =
     let new = c.new-account.ensures in
     record {
       sent = none_before (sent_from c.new-account.result lines) ∙ ap (λ a. sent_from a lines) new;
-      left = ap (λ a. fold counted a lines) new ∙ counted_none lines;
+      left = ap (λ a. fold with_line a lines) new ∙ counted_none lines;
       calls = ap (λ (a : Account). a.calls) new;
       waits = omega (arith, ap (λ (a : Account). a.waits) new);
       buffers = omega (arith, ap (λ (a : Account). a.buffers) new);

@@ -5,7 +5,7 @@ use Rattle.std.proofs.lemmas.List.{append-nil}
 use Rattle.pipe_queue.specs.declared.item.Item.{Item}
 use Rattle.bus_words.specs.Pipes.{with_pipe, without_front, offered_over, is_queued, dropped_at}
 use Rattle.pipe_table.specs.Table.{Pipes}
-use Rattle.subscriptions.specs.Subs.{Subscription, live_at, one_more, with_change}
+use Rattle.subscriptions.specs.Subs.{LiveSubscription, live_at, one_more, with_change}
 use Rattle.bus_tables.specs.Missed.{Missed}
 use Rattle.bus_words.specs.declared.miss.Miss.{Miss}
 use Rattle.bus_words.specs.declared.miss.MissCause.TheVariants.{OverLimit, Full, Oldest}
@@ -56,7 +56,7 @@ pub returns-in-Skip-clause-rows : goal.returns-in-Skip-clause-rows
 returns-in-Skip-clause-rows c = λ x live.
     let found = pipe_here c.args.pipes.now.live c.args.subs.now c.args.sub x c.recall_order.ensures.order c.requires.queued live in
     let number = pipe_is c.args.subs.now c.args.sub x c.at-row.result c.at-row.ensures live in
-    let over = over_is c.args.subs.now c.args.sub x c.at-row.result c.eq-is_over.result c.verdict.result c.at-row.ensures live c.verdict.ensures c.eq-is_over.ensures in
+    let over = over_is c.args.subs.now c.args.sub x c.at-row.result c.eq-is_over.result c.admission.result c.at-row.ensures live c.admission.ensures c.eq-is_over.ensures in
     let item : Item = record { desc = c.args.message.now.desc; number = c.args.message.now.number; sub = c.args.sub } in
     let after = left c.args.pipes.now c.offer-offered.new.self c.args.message.now.sender c.eq-is_over.result (leb x.limit x.waiting) item c.at-row.result.pipe x.pipe number over c.offer-offered.ensures.after in
     ap (map row_in) after
@@ -67,7 +67,7 @@ pub returns-in-Skip-clause-taken : goal.returns-in-Skip-clause-taken
 returns-in-Skip-clause-taken c = λ x live.
     let found = pipe_here c.args.pipes.now.live c.args.subs.now c.args.sub x c.recall_order.ensures.order c.requires.queued live in
     let number = pipe_is c.args.subs.now c.args.sub x c.at-row.result c.at-row.ensures live in
-    let over = over_is c.args.subs.now c.args.sub x c.at-row.result c.eq-is_over.result c.verdict.result c.at-row.ensures live c.verdict.ensures c.eq-is_over.ensures in
+    let over = over_is c.args.subs.now c.args.sub x c.at-row.result c.eq-is_over.result c.admission.result c.at-row.ensures live c.admission.ensures c.eq-is_over.ensures in
     let told = told_is c.args.pipes.now.live x found.0 found.1 c.args.message.now c.at-row.result.pipe c.eq-is_over.result c.offer-offered.result.verdict number over c.offer-offered.ensures.told ∙ c.in-Skip.is in
     sym (taken_is c.args.pipes.now.live x found.0 found.1 c.args.message.now ∙ ap (λ v. cond {A = ℕ} (is_queued v) 1 0) told)
 
@@ -75,7 +75,7 @@ pub returns-in-Skip-clause-missed : goal.returns-in-Skip-clause-missed
 returns-in-Skip-clause-missed c = λ x live.
     let found = pipe_here c.args.pipes.now.live c.args.subs.now c.args.sub x c.recall_order.ensures.order c.requires.queued live in
     let number = pipe_is c.args.subs.now c.args.sub x c.at-row.result c.at-row.ensures live in
-    let over = over_is c.args.subs.now c.args.sub x c.at-row.result c.eq-is_over.result c.verdict.result c.at-row.ensures live c.verdict.ensures c.eq-is_over.ensures in
+    let over = over_is c.args.subs.now c.args.sub x c.at-row.result c.eq-is_over.result c.admission.result c.at-row.ensures live c.admission.ensures c.eq-is_over.ensures in
     let told = told_is c.args.pipes.now.live x found.0 found.1 c.args.message.now c.at-row.result.pipe c.eq-is_over.result c.offer-offered.result.verdict number over c.offer-offered.ensures.told ∙ c.in-Skip.is in
     stays_so c.args.misses.now (row_misses c.args.message.now (sub_in x) (map row_in c.args.pipes.now.live)) (row_drops c.args.message.now (sub_in x) (map row_in c.args.pipes.now.live))
     (missed_is c.args.pipes.now.live x found.0 found.1 c.args.message.now ∙ ap (told_by x.pipe) told)
@@ -88,7 +88,7 @@ returns-in-Skip-clause-queued c =
     let live = it.1 in
     let found = pipe_here c.args.pipes.now.live c.args.subs.now c.args.sub x c.recall_order.ensures.order c.requires.queued live in
     let number = pipe_is c.args.subs.now c.args.sub x c.at-row.result c.at-row.ensures live in
-    let over = over_is c.args.subs.now c.args.sub x c.at-row.result c.eq-is_over.result c.verdict.result c.at-row.ensures live c.verdict.ensures c.eq-is_over.ensures in
+    let over = over_is c.args.subs.now c.args.sub x c.at-row.result c.eq-is_over.result c.admission.result c.at-row.ensures live c.admission.ensures c.eq-is_over.ensures in
     let told = told_is c.args.pipes.now.live x found.0 found.1 c.args.message.now c.at-row.result.pipe c.eq-is_over.result c.offer-offered.result.verdict number over c.offer-offered.ensures.told ∙ c.in-Skip.is in
     let item : Item = record { desc = c.args.message.now.desc; number = c.args.message.now.number; sub = c.args.sub } in
     let after = left c.args.pipes.now c.offer-offered.new.self c.args.message.now.sender c.eq-is_over.result (leb x.limit x.waiting) item c.at-row.result.pipe x.pipe number over c.offer-offered.ensures.after in
@@ -100,7 +100,7 @@ pub returns-in-OverLimit-clause-rows : goal.returns-in-OverLimit-clause-rows
 returns-in-OverLimit-clause-rows c = λ x live.
     let found = pipe_here c.args.pipes.now.live c.args.subs.now c.args.sub x c.recall_order.ensures.order c.requires.queued live in
     let number = pipe_is c.args.subs.now c.args.sub x c.at-row.result c.at-row.ensures live in
-    let over = over_is c.args.subs.now c.args.sub x c.at-row.result c.eq-is_over.result c.verdict.result c.at-row.ensures live c.verdict.ensures c.eq-is_over.ensures in
+    let over = over_is c.args.subs.now c.args.sub x c.at-row.result c.eq-is_over.result c.admission.result c.at-row.ensures live c.admission.ensures c.eq-is_over.ensures in
     let item : Item = record { desc = c.args.message.now.desc; number = c.args.message.now.number; sub = c.args.sub } in
     let after = left c.args.pipes.now c.offer-offered.new.self c.args.message.now.sender c.eq-is_over.result (leb x.limit x.waiting) item c.at-row.result.pipe x.pipe number over c.offer-offered.ensures.after in
     ap (map row_in) after
@@ -111,7 +111,7 @@ pub returns-in-OverLimit-clause-taken : goal.returns-in-OverLimit-clause-taken
 returns-in-OverLimit-clause-taken c = λ x live.
     let found = pipe_here c.args.pipes.now.live c.args.subs.now c.args.sub x c.recall_order.ensures.order c.requires.queued live in
     let number = pipe_is c.args.subs.now c.args.sub x c.at-row.result c.at-row.ensures live in
-    let over = over_is c.args.subs.now c.args.sub x c.at-row.result c.eq-is_over.result c.verdict.result c.at-row.ensures live c.verdict.ensures c.eq-is_over.ensures in
+    let over = over_is c.args.subs.now c.args.sub x c.at-row.result c.eq-is_over.result c.admission.result c.at-row.ensures live c.admission.ensures c.eq-is_over.ensures in
     let told = told_is c.args.pipes.now.live x found.0 found.1 c.args.message.now c.at-row.result.pipe c.eq-is_over.result c.offer-offered.result.verdict number over c.offer-offered.ensures.told ∙ c.in-OverLimit.is in
     sym (taken_is c.args.pipes.now.live x found.0 found.1 c.args.message.now ∙ ap (λ v. cond {A = ℕ} (is_queued v) 1 0) told)
 
@@ -119,7 +119,7 @@ pub returns-in-OverLimit-clause-missed : goal.returns-in-OverLimit-clause-missed
 returns-in-OverLimit-clause-missed c = λ x live.
     let found = pipe_here c.args.pipes.now.live c.args.subs.now c.args.sub x c.recall_order.ensures.order c.requires.queued live in
     let number = pipe_is c.args.subs.now c.args.sub x c.at-row.result c.at-row.ensures live in
-    let over = over_is c.args.subs.now c.args.sub x c.at-row.result c.eq-is_over.result c.verdict.result c.at-row.ensures live c.verdict.ensures c.eq-is_over.ensures in
+    let over = over_is c.args.subs.now c.args.sub x c.at-row.result c.eq-is_over.result c.admission.result c.at-row.ensures live c.admission.ensures c.eq-is_over.ensures in
     let told = told_is c.args.pipes.now.live x found.0 found.1 c.args.message.now c.at-row.result.pipe c.eq-is_over.result c.offer-offered.result.verdict number over c.offer-offered.ensures.told ∙ c.in-OverLimit.is in
     let drops = row_drops c.args.message.now (sub_in x) (map row_in c.args.pipes.now.live) in
     c.push.ensures
@@ -134,7 +134,7 @@ returns-in-OverLimit-clause-queued c =
     let live = it.1 in
     let found = pipe_here c.args.pipes.now.live c.args.subs.now c.args.sub x c.recall_order.ensures.order c.requires.queued live in
     let number = pipe_is c.args.subs.now c.args.sub x c.at-row.result c.at-row.ensures live in
-    let over = over_is c.args.subs.now c.args.sub x c.at-row.result c.eq-is_over.result c.verdict.result c.at-row.ensures live c.verdict.ensures c.eq-is_over.ensures in
+    let over = over_is c.args.subs.now c.args.sub x c.at-row.result c.eq-is_over.result c.admission.result c.at-row.ensures live c.admission.ensures c.eq-is_over.ensures in
     let told = told_is c.args.pipes.now.live x found.0 found.1 c.args.message.now c.at-row.result.pipe c.eq-is_over.result c.offer-offered.result.verdict number over c.offer-offered.ensures.told ∙ c.in-OverLimit.is in
     let item : Item = record { desc = c.args.message.now.desc; number = c.args.message.now.number; sub = c.args.sub } in
     let after = left c.args.pipes.now c.offer-offered.new.self c.args.message.now.sender c.eq-is_over.result (leb x.limit x.waiting) item c.at-row.result.pipe x.pipe number over c.offer-offered.ensures.after in
@@ -146,7 +146,7 @@ pub returns-in-Full-clause-rows : goal.returns-in-Full-clause-rows
 returns-in-Full-clause-rows c = λ x live.
     let found = pipe_here c.args.pipes.now.live c.args.subs.now c.args.sub x c.recall_order.ensures.order c.requires.queued live in
     let number = pipe_is c.args.subs.now c.args.sub x c.at-row.result c.at-row.ensures live in
-    let over = over_is c.args.subs.now c.args.sub x c.at-row.result c.eq-is_over.result c.verdict.result c.at-row.ensures live c.verdict.ensures c.eq-is_over.ensures in
+    let over = over_is c.args.subs.now c.args.sub x c.at-row.result c.eq-is_over.result c.admission.result c.at-row.ensures live c.admission.ensures c.eq-is_over.ensures in
     let item : Item = record { desc = c.args.message.now.desc; number = c.args.message.now.number; sub = c.args.sub } in
     let after = left c.args.pipes.now c.offer-offered.new.self c.args.message.now.sender c.eq-is_over.result (leb x.limit x.waiting) item c.at-row.result.pipe x.pipe number over c.offer-offered.ensures.after in
     ap (map row_in) after
@@ -157,7 +157,7 @@ pub returns-in-Full-clause-taken : goal.returns-in-Full-clause-taken
 returns-in-Full-clause-taken c = λ x live.
     let found = pipe_here c.args.pipes.now.live c.args.subs.now c.args.sub x c.recall_order.ensures.order c.requires.queued live in
     let number = pipe_is c.args.subs.now c.args.sub x c.at-row.result c.at-row.ensures live in
-    let over = over_is c.args.subs.now c.args.sub x c.at-row.result c.eq-is_over.result c.verdict.result c.at-row.ensures live c.verdict.ensures c.eq-is_over.ensures in
+    let over = over_is c.args.subs.now c.args.sub x c.at-row.result c.eq-is_over.result c.admission.result c.at-row.ensures live c.admission.ensures c.eq-is_over.ensures in
     let told = told_is c.args.pipes.now.live x found.0 found.1 c.args.message.now c.at-row.result.pipe c.eq-is_over.result c.offer-offered.result.verdict number over c.offer-offered.ensures.told ∙ c.in-Full.is in
     sym (taken_is c.args.pipes.now.live x found.0 found.1 c.args.message.now ∙ ap (λ v. cond {A = ℕ} (is_queued v) 1 0) told)
 
@@ -165,7 +165,7 @@ pub returns-in-Full-clause-missed : goal.returns-in-Full-clause-missed
 returns-in-Full-clause-missed c = λ x live.
     let found = pipe_here c.args.pipes.now.live c.args.subs.now c.args.sub x c.recall_order.ensures.order c.requires.queued live in
     let number = pipe_is c.args.subs.now c.args.sub x c.at-row.result c.at-row.ensures live in
-    let over = over_is c.args.subs.now c.args.sub x c.at-row.result c.eq-is_over.result c.verdict.result c.at-row.ensures live c.verdict.ensures c.eq-is_over.ensures in
+    let over = over_is c.args.subs.now c.args.sub x c.at-row.result c.eq-is_over.result c.admission.result c.at-row.ensures live c.admission.ensures c.eq-is_over.ensures in
     let told = told_is c.args.pipes.now.live x found.0 found.1 c.args.message.now c.at-row.result.pipe c.eq-is_over.result c.offer-offered.result.verdict number over c.offer-offered.ensures.told ∙ c.in-Full.is in
     let drops = row_drops c.args.message.now (sub_in x) (map row_in c.args.pipes.now.live) in
     c.push-in-Full.ensures
@@ -180,7 +180,7 @@ returns-in-Full-clause-queued c =
     let live = it.1 in
     let found = pipe_here c.args.pipes.now.live c.args.subs.now c.args.sub x c.recall_order.ensures.order c.requires.queued live in
     let number = pipe_is c.args.subs.now c.args.sub x c.at-row.result c.at-row.ensures live in
-    let over = over_is c.args.subs.now c.args.sub x c.at-row.result c.eq-is_over.result c.verdict.result c.at-row.ensures live c.verdict.ensures c.eq-is_over.ensures in
+    let over = over_is c.args.subs.now c.args.sub x c.at-row.result c.eq-is_over.result c.admission.result c.at-row.ensures live c.admission.ensures c.eq-is_over.ensures in
     let told = told_is c.args.pipes.now.live x found.0 found.1 c.args.message.now c.at-row.result.pipe c.eq-is_over.result c.offer-offered.result.verdict number over c.offer-offered.ensures.told ∙ c.in-Full.is in
     let item : Item = record { desc = c.args.message.now.desc; number = c.args.message.now.number; sub = c.args.sub } in
     let after = left c.args.pipes.now c.offer-offered.new.self c.args.message.now.sender c.eq-is_over.result (leb x.limit x.waiting) item c.at-row.result.pipe x.pipe number over c.offer-offered.ensures.after in
@@ -192,7 +192,7 @@ pub returns-in-In-clause-rows : goal.returns-in-In-clause-rows
 returns-in-In-clause-rows c = λ x live.
     let found = pipe_here c.args.pipes.now.live c.args.subs.now c.args.sub x c.recall_order.ensures.order c.requires.queued live in
     let number = pipe_is c.args.subs.now c.args.sub x c.at-row.result c.at-row.ensures live in
-    let over = over_is c.args.subs.now c.args.sub x c.at-row.result c.eq-is_over.result c.verdict.result c.at-row.ensures live c.verdict.ensures c.eq-is_over.ensures in
+    let over = over_is c.args.subs.now c.args.sub x c.at-row.result c.eq-is_over.result c.admission.result c.at-row.ensures live c.admission.ensures c.eq-is_over.ensures in
     let item : Item = record { desc = c.args.message.now.desc; number = c.args.message.now.number; sub = c.args.sub } in
     let after = left c.args.pipes.now c.offer-offered.new.self c.args.message.now.sender c.eq-is_over.result (leb x.limit x.waiting) item c.at-row.result.pipe x.pipe number over c.offer-offered.ensures.after in
     ap (map row_in) after
@@ -203,7 +203,7 @@ pub returns-in-In-clause-taken : goal.returns-in-In-clause-taken
 returns-in-In-clause-taken c = λ x live.
     let found = pipe_here c.args.pipes.now.live c.args.subs.now c.args.sub x c.recall_order.ensures.order c.requires.queued live in
     let number = pipe_is c.args.subs.now c.args.sub x c.at-row.result c.at-row.ensures live in
-    let over = over_is c.args.subs.now c.args.sub x c.at-row.result c.eq-is_over.result c.verdict.result c.at-row.ensures live c.verdict.ensures c.eq-is_over.ensures in
+    let over = over_is c.args.subs.now c.args.sub x c.at-row.result c.eq-is_over.result c.admission.result c.at-row.ensures live c.admission.ensures c.eq-is_over.ensures in
     let told = told_is c.args.pipes.now.live x found.0 found.1 c.args.message.now c.at-row.result.pipe c.eq-is_over.result c.offer-offered.result.verdict number over c.offer-offered.ensures.told ∙ c.in-In.is in
     sym (taken_is c.args.pipes.now.live x found.0 found.1 c.args.message.now ∙ ap (λ v. cond {A = ℕ} (is_queued v) 1 0) told)
 
@@ -211,7 +211,7 @@ pub returns-in-In-clause-missed : goal.returns-in-In-clause-missed
 returns-in-In-clause-missed c = λ x live.
     let found = pipe_here c.args.pipes.now.live c.args.subs.now c.args.sub x c.recall_order.ensures.order c.requires.queued live in
     let number = pipe_is c.args.subs.now c.args.sub x c.at-row.result c.at-row.ensures live in
-    let over = over_is c.args.subs.now c.args.sub x c.at-row.result c.eq-is_over.result c.verdict.result c.at-row.ensures live c.verdict.ensures c.eq-is_over.ensures in
+    let over = over_is c.args.subs.now c.args.sub x c.at-row.result c.eq-is_over.result c.admission.result c.at-row.ensures live c.admission.ensures c.eq-is_over.ensures in
     let told = told_is c.args.pipes.now.live x found.0 found.1 c.args.message.now c.at-row.result.pipe c.eq-is_over.result c.offer-offered.result.verdict number over c.offer-offered.ensures.told ∙ c.in-In.is in
     stays_so c.args.misses.now (row_misses c.args.message.now (sub_in x) (map row_in c.args.pipes.now.live)) (row_drops c.args.message.now (sub_in x) (map row_in c.args.pipes.now.live))
     (missed_is c.args.pipes.now.live x found.0 found.1 c.args.message.now ∙ ap (told_by x.pipe) told)
@@ -227,7 +227,7 @@ returns-in-In-clause-queued c =
     let live = it.1 in
     let found = pipe_here c.args.pipes.now.live c.args.subs.now c.args.sub x c.recall_order.ensures.order c.requires.queued live in
     let number = pipe_is c.args.subs.now c.args.sub x c.at-row.result c.at-row.ensures live in
-    let over = over_is c.args.subs.now c.args.sub x c.at-row.result c.eq-is_over.result c.verdict.result c.at-row.ensures live c.verdict.ensures c.eq-is_over.ensures in
+    let over = over_is c.args.subs.now c.args.sub x c.at-row.result c.eq-is_over.result c.admission.result c.at-row.ensures live c.admission.ensures c.eq-is_over.ensures in
     let told = told_is c.args.pipes.now.live x found.0 found.1 c.args.message.now c.at-row.result.pipe c.eq-is_over.result c.offer-offered.result.verdict number over c.offer-offered.ensures.told ∙ c.in-In.is in
     let item : Item = record { desc = c.args.message.now.desc; number = c.args.message.now.number; sub = c.args.sub } in
     let after = left c.args.pipes.now c.offer-offered.new.self c.args.message.now.sender c.eq-is_over.result (leb x.limit x.waiting) item c.at-row.result.pipe x.pipe number over c.offer-offered.ensures.after in
@@ -244,7 +244,7 @@ count_down-requires c =
     let live = it.1 in
     let found = pipe_here c.args.pipes.now.live c.args.subs.now c.args.sub x c.recall_order.ensures.order c.requires.queued live in
     let number = pipe_is c.args.subs.now c.args.sub x c.at-row.result c.at-row.ensures live in
-    let over = over_is c.args.subs.now c.args.sub x c.at-row.result c.eq-is_over.result c.verdict.result c.at-row.ensures live c.verdict.ensures c.eq-is_over.ensures in
+    let over = over_is c.args.subs.now c.args.sub x c.at-row.result c.eq-is_over.result c.admission.result c.at-row.ensures live c.admission.ensures c.eq-is_over.ensures in
     let told = told_is c.args.pipes.now.live x found.0 found.1 c.args.message.now c.at-row.result.pipe c.eq-is_over.result c.offer-offered.result.verdict number over c.offer-offered.ensures.told ∙ c.in-Oldest.is in
     let gone = left_is c.args.pipes.now.live x found.0 found.1 c.args.message.now c.at-row.result.pipe c.offer-offered.result.verdict c.offer-offered.result.dropped number
     (told ∙ sym c.in-Oldest.is) c.offer-offered.ensures.dropped in
@@ -260,16 +260,16 @@ pub add_waiting-requires-in-Oldest-clause-few : goal.add_waiting-requires-in-Old
 add_waiting-requires-in-Oldest-clause-few c = λ y live_now.
     let it = some_there (live_at c.args.subs.now c.args.sub) c.requires.live in
     let t = live_fewer c.args.subs.now c.args.sub it.0 c.offer-offered.result.dropped it.1 in
-    let same : ◌≡◌ {A = Option Subscription} (Some t.0) (Some y) = sym t.1 ∙ ap (λ s. live_at s c.args.sub) (sym c.count_down.ensures) ∙ live_now in
+    let same : ◌≡◌ {A = Option LiveSubscription} (Some t.0) (Some y) = sym t.1 ∙ ap (λ s. live_at s c.args.sub) (sym c.count_down.ensures) ∙ live_now in
     let mine : t.0 ≡ y = cc (same) in
     let waits = waiting_is c.args.subs.now c.args.sub it.0 c.at-row.result c.at-row.ensures it.1 in
-    omega (arith, ap (λ (s : Subscription). s.waiting) mine, t.2, waits, c.if-prove.false)
+    omega (arith, ap (λ (s : LiveSubscription). s.waiting) mine, t.2, waits, c.if-prove.false)
 
 pub returns-in-Oldest-clause-rows : goal.returns-in-Oldest-clause-rows
 returns-in-Oldest-clause-rows c = λ x live.
     let found = pipe_here c.args.pipes.now.live c.args.subs.now c.args.sub x c.recall_order.ensures.order c.requires.queued live in
     let number = pipe_is c.args.subs.now c.args.sub x c.at-row.result c.at-row.ensures live in
-    let over = over_is c.args.subs.now c.args.sub x c.at-row.result c.eq-is_over.result c.verdict.result c.at-row.ensures live c.verdict.ensures c.eq-is_over.ensures in
+    let over = over_is c.args.subs.now c.args.sub x c.at-row.result c.eq-is_over.result c.admission.result c.at-row.ensures live c.admission.ensures c.eq-is_over.ensures in
     let item : Item = record { desc = c.args.message.now.desc; number = c.args.message.now.number; sub = c.args.sub } in
     let after = left c.args.pipes.now c.offer-offered.new.self c.args.message.now.sender c.eq-is_over.result (leb x.limit x.waiting) item c.at-row.result.pipe x.pipe number over c.offer-offered.ensures.after in
     ap (map row_in) after
@@ -280,7 +280,7 @@ pub returns-in-Oldest-clause-taken : goal.returns-in-Oldest-clause-taken
 returns-in-Oldest-clause-taken c = λ x live.
     let found = pipe_here c.args.pipes.now.live c.args.subs.now c.args.sub x c.recall_order.ensures.order c.requires.queued live in
     let number = pipe_is c.args.subs.now c.args.sub x c.at-row.result c.at-row.ensures live in
-    let over = over_is c.args.subs.now c.args.sub x c.at-row.result c.eq-is_over.result c.verdict.result c.at-row.ensures live c.verdict.ensures c.eq-is_over.ensures in
+    let over = over_is c.args.subs.now c.args.sub x c.at-row.result c.eq-is_over.result c.admission.result c.at-row.ensures live c.admission.ensures c.eq-is_over.ensures in
     let told = told_is c.args.pipes.now.live x found.0 found.1 c.args.message.now c.at-row.result.pipe c.eq-is_over.result c.offer-offered.result.verdict number over c.offer-offered.ensures.told ∙ c.in-Oldest.is in
     sym (taken_is c.args.pipes.now.live x found.0 found.1 c.args.message.now ∙ ap (λ v. cond {A = ℕ} (is_queued v) 1 0) told)
 
@@ -288,7 +288,7 @@ pub returns-in-Oldest-clause-missed : goal.returns-in-Oldest-clause-missed
 returns-in-Oldest-clause-missed c = λ x live.
     let found = pipe_here c.args.pipes.now.live c.args.subs.now c.args.sub x c.recall_order.ensures.order c.requires.queued live in
     let number = pipe_is c.args.subs.now c.args.sub x c.at-row.result c.at-row.ensures live in
-    let over = over_is c.args.subs.now c.args.sub x c.at-row.result c.eq-is_over.result c.verdict.result c.at-row.ensures live c.verdict.ensures c.eq-is_over.ensures in
+    let over = over_is c.args.subs.now c.args.sub x c.at-row.result c.eq-is_over.result c.admission.result c.at-row.ensures live c.admission.ensures c.eq-is_over.ensures in
     let told = told_is c.args.pipes.now.live x found.0 found.1 c.args.message.now c.at-row.result.pipe c.eq-is_over.result c.offer-offered.result.verdict number over c.offer-offered.ensures.told ∙ c.in-Oldest.is in
     let gone = left_is c.args.pipes.now.live x found.0 found.1 c.args.message.now c.at-row.result.pipe c.offer-offered.result.verdict c.offer-offered.result.dropped number
     (told ∙ sym c.in-Oldest.is) c.offer-offered.ensures.dropped in
@@ -313,7 +313,7 @@ returns-in-Oldest-clause-queued c =
     let live = it.1 in
     let found = pipe_here c.args.pipes.now.live c.args.subs.now c.args.sub x c.recall_order.ensures.order c.requires.queued live in
     let number = pipe_is c.args.subs.now c.args.sub x c.at-row.result c.at-row.ensures live in
-    let over = over_is c.args.subs.now c.args.sub x c.at-row.result c.eq-is_over.result c.verdict.result c.at-row.ensures live c.verdict.ensures c.eq-is_over.ensures in
+    let over = over_is c.args.subs.now c.args.sub x c.at-row.result c.eq-is_over.result c.admission.result c.at-row.ensures live c.admission.ensures c.eq-is_over.ensures in
     let told = told_is c.args.pipes.now.live x found.0 found.1 c.args.message.now c.at-row.result.pipe c.eq-is_over.result c.offer-offered.result.verdict number over c.offer-offered.ensures.told ∙ c.in-Oldest.is in
     let gone = left_is c.args.pipes.now.live x found.0 found.1 c.args.message.now c.at-row.result.pipe c.offer-offered.result.verdict c.offer-offered.result.dropped number
     (told ∙ sym c.in-Oldest.is) c.offer-offered.ensures.dropped in

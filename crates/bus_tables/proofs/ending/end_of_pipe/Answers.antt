@@ -1,7 +1,7 @@
 -- Each round ends one subscription of the pipe.
 use Rattle.std.proofs.Common.{◌≡◌, not, eqb, length, filter, Bool, Some, option_map, ap, sym, ◌∙◌, arith}
 use Rattle.std.proofs.lemmas.Bool.{eq-eqb}
-use Rattle.subscriptions.specs.Subs.{Subscription, Subscribed, live_at, without}
+use Rattle.subscriptions.specs.Subs.{LiveSubscription, Subscribed, live_at, without}
 use Rattle.bus_tables.proofs.EndingsLists.{not_none}
 use Rattle.bus_tables.proofs.Endings.{of_pipe, stays_without, fewer_without, none_of_pipe, same_frame, same_routing}
 use Rattle.bus_tables.proofs.ending.end_of_pipe.Goals as goal
@@ -18,7 +18,7 @@ loop-sub-preserved g c =
     let subs = c.loop-sub.subs in
     let own : option_map (λ s. s.pipe) (live_at subs c.in-Some.sub) ≡ Some c.args.pipe = c.in-Some.ensures.own in
     let one = of_pipe (live_at subs c.in-Some.sub) c.args.pipe own in
-    let stays : Subscription → Bool = λ s. not (eqb s.pipe c.args.pipe) in
+    let stays : LiveSubscription → Bool = λ s. not (eqb s.pipe c.args.pipe) in
     record {
       routed = c.end_subscription.ensures.routed;
       stays =

@@ -1,6 +1,6 @@
 use Rattle.std.proofs.Common.{◌-◌, ◌<◌, None, set, ap, sym, ◌∙◌, subst}
 use Rattle.bucket_list.specs.Lists.{times_in}
-use Rattle.zero_copy.specs.Held.{Held, held_by, without}
+use Rattle.zero_copy.specs.Held.{HeldDescs, held_by, without}
 use Rattle.bus_store.specs.Bag.{with_lent}
 use Rattle.bus_store.proofs.BufferReleases.{is_freed}
 use Rattle.bus_store.proofs.LentBuffers.{seen_whole}
@@ -22,7 +22,7 @@ invariant_of-self g c =
     is_freed c.self.inside c.args.self.now c.args.app c.args.buf c.unwrap-block.result.desc c.give_up.new.self c.let_go.new.self c.self.view_is c.self.invariant c.requires.bag.known
     (in_list c.self.inside c.args.self.now c.args.app c.args.buf c.self.view_is c.self.invariant c.requires.has c.args.held.now c.requires.bag c.unwrap-block.result (sym c.unwrap-block.ensures ∙ c.take_buffer.ensures.found))
     (numbered_block c.self.inside c.args.self.now c.args.app c.args.buf c.self.view_is c.self.invariant c.requires.has c.args.held.now c.requires.bag c.unwrap-block.result (sym c.unwrap-block.ensures ∙ c.take_buffer.ensures.found))
-    (c.let_go.ensures.after ∙ ap (λ n. let v : Held = record c.self.inside.lists { lists = set c.self.inside.lists.lists (c.args.app - 1) (without n (held_by c.self.inside.lists c.args.app)) } in v) c.desc.ensures)
+    (c.let_go.ensures.after ∙ ap (λ n. let v : HeldDescs = record c.self.inside.lists { lists = set c.self.inside.lists.lists (c.args.app - 1) (without n (held_by c.self.inside.lists c.args.app)) } in v) c.desc.ensures)
     c.recall_live.ensures.live c.give_up.ensures.after in
     freed.keeps
 
@@ -32,7 +32,7 @@ returns-clause-after g c =
     is_freed c.self.inside c.args.self.now c.args.app c.args.buf c.unwrap-block.result.desc c.give_up.new.self c.let_go.new.self c.self.view_is c.self.invariant c.requires.bag.known
     (in_list c.self.inside c.args.self.now c.args.app c.args.buf c.self.view_is c.self.invariant c.requires.has c.args.held.now c.requires.bag c.unwrap-block.result (sym c.unwrap-block.ensures ∙ c.take_buffer.ensures.found))
     (numbered_block c.self.inside c.args.self.now c.args.app c.args.buf c.self.view_is c.self.invariant c.requires.has c.args.held.now c.requires.bag c.unwrap-block.result (sym c.unwrap-block.ensures ∙ c.take_buffer.ensures.found))
-    (c.let_go.ensures.after ∙ ap (λ n. let v : Held = record c.self.inside.lists { lists = set c.self.inside.lists.lists (c.args.app - 1) (without n (held_by c.self.inside.lists c.args.app)) } in v) c.desc.ensures)
+    (c.let_go.ensures.after ∙ ap (λ n. let v : HeldDescs = record c.self.inside.lists { lists = set c.self.inside.lists.lists (c.args.app - 1) (without n (held_by c.self.inside.lists c.args.app)) } in v) c.desc.ensures)
     c.recall_live.ensures.live c.give_up.ensures.after in
     freed.store c.recall_live-2.ensures.live
 
@@ -42,7 +42,7 @@ returns-clause-descs g c =
     is_freed c.self.inside c.args.self.now c.args.app c.args.buf c.unwrap-block.result.desc c.give_up.new.self c.let_go.new.self c.self.view_is c.self.invariant c.requires.bag.known
     (in_list c.self.inside c.args.self.now c.args.app c.args.buf c.self.view_is c.self.invariant c.requires.has c.args.held.now c.requires.bag c.unwrap-block.result (sym c.unwrap-block.ensures ∙ c.take_buffer.ensures.found))
     (numbered_block c.self.inside c.args.self.now c.args.app c.args.buf c.self.view_is c.self.invariant c.requires.has c.args.held.now c.requires.bag c.unwrap-block.result (sym c.unwrap-block.ensures ∙ c.take_buffer.ensures.found))
-    (c.let_go.ensures.after ∙ ap (λ n. let v : Held = record c.self.inside.lists { lists = set c.self.inside.lists.lists (c.args.app - 1) (without n (held_by c.self.inside.lists c.args.app)) } in v) c.desc.ensures)
+    (c.let_go.ensures.after ∙ ap (λ n. let v : HeldDescs = record c.self.inside.lists { lists = set c.self.inside.lists.lists (c.args.app - 1) (without n (held_by c.self.inside.lists c.args.app)) } in v) c.desc.ensures)
     c.recall_live.ensures.live c.give_up.ensures.after in
     freed.descs
 
@@ -52,7 +52,7 @@ returns-clause-bag g c = λ lent none holds.
     is_freed c.self.inside c.args.self.now c.args.app c.args.buf c.unwrap-block.result.desc c.give_up.new.self c.let_go.new.self c.self.view_is c.self.invariant c.requires.bag.known
     (in_list c.self.inside c.args.self.now c.args.app c.args.buf c.self.view_is c.self.invariant c.requires.has c.args.held.now c.requires.bag c.unwrap-block.result (sym c.unwrap-block.ensures ∙ c.take_buffer.ensures.found))
     (numbered_block c.self.inside c.args.self.now c.args.app c.args.buf c.self.view_is c.self.invariant c.requires.has c.args.held.now c.requires.bag c.unwrap-block.result (sym c.unwrap-block.ensures ∙ c.take_buffer.ensures.found))
-    (c.let_go.ensures.after ∙ ap (λ n. let v : Held = record c.self.inside.lists { lists = set c.self.inside.lists.lists (c.args.app - 1) (without n (held_by c.self.inside.lists c.args.app)) } in v) c.desc.ensures)
+    (c.let_go.ensures.after ∙ ap (λ n. let v : HeldDescs = record c.self.inside.lists { lists = set c.self.inside.lists.lists (c.args.app - 1) (without n (held_by c.self.inside.lists c.args.app)) } in v) c.desc.ensures)
     c.recall_live.ensures.live c.give_up.ensures.after in
     freed.bag (with_lent c.args.held.now lent) (with_lent c.take_buffer.new.self lent) holds
     (seen_whole c.args.held.now c.take_buffer.new.self lent c.args.buf None none c.take_buffer.ensures.seen)
@@ -63,6 +63,6 @@ returns-clause-other_bags g c =
     is_freed c.self.inside c.args.self.now c.args.app c.args.buf c.unwrap-block.result.desc c.give_up.new.self c.let_go.new.self c.self.view_is c.self.invariant c.requires.bag.known
     (in_list c.self.inside c.args.self.now c.args.app c.args.buf c.self.view_is c.self.invariant c.requires.has c.args.held.now c.requires.bag c.unwrap-block.result (sym c.unwrap-block.ensures ∙ c.take_buffer.ensures.found))
     (numbered_block c.self.inside c.args.self.now c.args.app c.args.buf c.self.view_is c.self.invariant c.requires.has c.args.held.now c.requires.bag c.unwrap-block.result (sym c.unwrap-block.ensures ∙ c.take_buffer.ensures.found))
-    (c.let_go.ensures.after ∙ ap (λ n. let v : Held = record c.self.inside.lists { lists = set c.self.inside.lists.lists (c.args.app - 1) (without n (held_by c.self.inside.lists c.args.app)) } in v) c.desc.ensures)
+    (c.let_go.ensures.after ∙ ap (λ n. let v : HeldDescs = record c.self.inside.lists { lists = set c.self.inside.lists.lists (c.args.app - 1) (without n (held_by c.self.inside.lists c.args.app)) } in v) c.desc.ensures)
     c.recall_live.ensures.live c.give_up.ensures.after in
     freed.others

@@ -1,7 +1,7 @@
 use Rattle.std.proofs.Common.{◌≡◌, ◌-◌, ◌<◌, ◌≤◌, set, length, List, ℕ, None, ap, sym, ◌∙◌, subst, arith}
 use Rattle.ccsds_msg.specs.Message.{message_id, front_fault}
 use Rattle.bucket_list.specs.Lists.{times_in}
-use Rattle.zero_copy.specs.Held.{Held, held_by, without}
+use Rattle.zero_copy.specs.Held.{HeldDescs, held_by, without}
 use Rattle.buf_desc.specs.Desk.{resealed, after_settle}
 use Rattle.buf_desc.specs.Held.{bytes_at}
 use Rattle.buf_desc.specs.Slots.{sealed_at}
@@ -44,7 +44,7 @@ invariant_of-self g c =
     passed_keeps c.self.inside c.args.self.now c.args.app c.args.buf c.unwrap-block.result.bytes c.args.inc c.id_of-id.result c.unwrap-block.result.desc c.deliver-reached.result c.next_count-count.result
     c.seal_front-desc.new.desk c.settle_message.new.desk c.next_count-count.new.tables c.deliver-reached.new.self c.deliver-reached.new.misses c.let_go.new.self
     c.self.view_is c.self.invariant c.recall_order.ensures c.requires.bag.known (in_list c.self.inside c.args.self.now c.args.app c.args.buf c.self.view_is c.self.invariant c.requires.has c.args.held.now c.requires.bag c.unwrap-block.result (sym c.unwrap-block.ensures ∙ c.take_buffer.ensures.found)) (numbered_block c.self.inside c.args.self.now c.args.app c.args.buf c.self.view_is c.self.invariant c.requires.has c.args.held.now c.requires.bag c.unwrap-block.result (sym c.unwrap-block.ensures ∙ c.take_buffer.ensures.found)) (size_block c.self.inside c.args.self.now c.args.app c.args.buf c.self.view_is c.self.invariant c.requires.has c.args.held.now c.requires.bag c.unwrap-block.result (sym c.unwrap-block.ensures ∙ c.take_buffer.ensures.found))
-    (c.let_go.ensures.after ∙ ap (λ n. let v : Held = record c.self.inside.lists { lists = set c.self.inside.lists.lists (c.args.app - 1) (without n (held_by c.self.inside.lists c.args.app)) } in v) c.desc.ensures)
+    (c.let_go.ensures.after ∙ ap (λ n. let v : HeldDescs = record c.self.inside.lists { lists = set c.self.inside.lists.lists (c.args.app - 1) (without n (held_by c.self.inside.lists c.args.app)) } in v) c.desc.ensures)
     (c.id_of-id.ensures ∙ ap message_id c.bytes.ensures) c.next_count-count.ensures.count c.next_count-count.ensures.after
     (seals_as c.self.inside c.args.self.now c.args.app c.args.buf c.self.view_is c.self.invariant c.requires.has c.args.held.now c.requires.bag c.unwrap-block.result (sym c.unwrap-block.ensures ∙ c.take_buffer.ensures.found) c.seal_front-desc.new.desk _ c.seal_front-desc.ensures.seals)
     c.seal_front-desc.ensures.pool c.seal_front-desc.ensures.numbers c.seal_front-desc.ensures.live
@@ -60,7 +60,7 @@ returns-clause-reached g c =
     (passed_reached c.self.inside c.args.self.now c.args.app c.args.buf c.unwrap-block.result.bytes c.args.inc c.id_of-id.result c.unwrap-block.result.desc c.deliver-reached.result c.next_count-count.result
     c.seal_front-desc.new.desk c.settle_message.new.desk c.next_count-count.new.tables c.deliver-reached.new.self c.deliver-reached.new.misses c.let_go.new.self
     c.self.view_is c.self.invariant c.recall_order.ensures c.requires.bag.known (in_list c.self.inside c.args.self.now c.args.app c.args.buf c.self.view_is c.self.invariant c.requires.has c.args.held.now c.requires.bag c.unwrap-block.result (sym c.unwrap-block.ensures ∙ c.take_buffer.ensures.found)) (numbered_block c.self.inside c.args.self.now c.args.app c.args.buf c.self.view_is c.self.invariant c.requires.has c.args.held.now c.requires.bag c.unwrap-block.result (sym c.unwrap-block.ensures ∙ c.take_buffer.ensures.found)) (size_block c.self.inside c.args.self.now c.args.app c.args.buf c.self.view_is c.self.invariant c.requires.has c.args.held.now c.requires.bag c.unwrap-block.result (sym c.unwrap-block.ensures ∙ c.take_buffer.ensures.found))
-    (c.let_go.ensures.after ∙ ap (λ n. let v : Held = record c.self.inside.lists { lists = set c.self.inside.lists.lists (c.args.app - 1) (without n (held_by c.self.inside.lists c.args.app)) } in v) c.desc.ensures)
+    (c.let_go.ensures.after ∙ ap (λ n. let v : HeldDescs = record c.self.inside.lists { lists = set c.self.inside.lists.lists (c.args.app - 1) (without n (held_by c.self.inside.lists c.args.app)) } in v) c.desc.ensures)
     (c.id_of-id.ensures ∙ ap message_id c.bytes.ensures) c.next_count-count.ensures.count c.next_count-count.ensures.after
     (seals_as c.self.inside c.args.self.now c.args.app c.args.buf c.self.view_is c.self.invariant c.requires.has c.args.held.now c.requires.bag c.unwrap-block.result (sym c.unwrap-block.ensures ∙ c.take_buffer.ensures.found) c.seal_front-desc.new.desk _ c.seal_front-desc.ensures.seals)
     c.seal_front-desc.ensures.pool c.seal_front-desc.ensures.numbers c.seal_front-desc.ensures.live
@@ -74,7 +74,7 @@ returns-clause-after g c =
     passed_at c.self.inside c.args.self.now c.args.app c.args.buf c.unwrap-block.result.bytes c.args.inc c.id_of-id.result c.unwrap-block.result.desc c.deliver-reached.result c.next_count-count.result
     c.seal_front-desc.new.desk c.settle_message.new.desk c.next_count-count.new.tables c.deliver-reached.new.self c.deliver-reached.new.misses c.let_go.new.self
     c.self.view_is c.self.invariant c.recall_order.ensures c.requires.bag.known (in_list c.self.inside c.args.self.now c.args.app c.args.buf c.self.view_is c.self.invariant c.requires.has c.args.held.now c.requires.bag c.unwrap-block.result (sym c.unwrap-block.ensures ∙ c.take_buffer.ensures.found)) (numbered_block c.self.inside c.args.self.now c.args.app c.args.buf c.self.view_is c.self.invariant c.requires.has c.args.held.now c.requires.bag c.unwrap-block.result (sym c.unwrap-block.ensures ∙ c.take_buffer.ensures.found)) (size_block c.self.inside c.args.self.now c.args.app c.args.buf c.self.view_is c.self.invariant c.requires.has c.args.held.now c.requires.bag c.unwrap-block.result (sym c.unwrap-block.ensures ∙ c.take_buffer.ensures.found))
-    (c.let_go.ensures.after ∙ ap (λ n. let v : Held = record c.self.inside.lists { lists = set c.self.inside.lists.lists (c.args.app - 1) (without n (held_by c.self.inside.lists c.args.app)) } in v) c.desc.ensures)
+    (c.let_go.ensures.after ∙ ap (λ n. let v : HeldDescs = record c.self.inside.lists { lists = set c.self.inside.lists.lists (c.args.app - 1) (without n (held_by c.self.inside.lists c.args.app)) } in v) c.desc.ensures)
     (c.id_of-id.ensures ∙ ap message_id c.bytes.ensures) c.next_count-count.ensures.count c.next_count-count.ensures.after
     (seals_as c.self.inside c.args.self.now c.args.app c.args.buf c.self.view_is c.self.invariant c.requires.has c.args.held.now c.requires.bag c.unwrap-block.result (sym c.unwrap-block.ensures ∙ c.take_buffer.ensures.found) c.seal_front-desc.new.desk _ c.seal_front-desc.ensures.seals)
     c.seal_front-desc.ensures.pool c.seal_front-desc.ensures.numbers c.seal_front-desc.ensures.live
@@ -93,7 +93,7 @@ returns-clause-descs g c =
     passed_descs c.self.inside c.args.self.now c.args.app c.args.buf c.unwrap-block.result.bytes c.args.inc c.id_of-id.result c.unwrap-block.result.desc c.deliver-reached.result c.next_count-count.result
     c.seal_front-desc.new.desk c.settle_message.new.desk c.next_count-count.new.tables c.deliver-reached.new.self c.deliver-reached.new.misses c.let_go.new.self
     c.self.view_is c.self.invariant c.recall_order.ensures c.requires.bag.known (in_list c.self.inside c.args.self.now c.args.app c.args.buf c.self.view_is c.self.invariant c.requires.has c.args.held.now c.requires.bag c.unwrap-block.result (sym c.unwrap-block.ensures ∙ c.take_buffer.ensures.found)) (numbered_block c.self.inside c.args.self.now c.args.app c.args.buf c.self.view_is c.self.invariant c.requires.has c.args.held.now c.requires.bag c.unwrap-block.result (sym c.unwrap-block.ensures ∙ c.take_buffer.ensures.found)) (size_block c.self.inside c.args.self.now c.args.app c.args.buf c.self.view_is c.self.invariant c.requires.has c.args.held.now c.requires.bag c.unwrap-block.result (sym c.unwrap-block.ensures ∙ c.take_buffer.ensures.found))
-    (c.let_go.ensures.after ∙ ap (λ n. let v : Held = record c.self.inside.lists { lists = set c.self.inside.lists.lists (c.args.app - 1) (without n (held_by c.self.inside.lists c.args.app)) } in v) c.desc.ensures)
+    (c.let_go.ensures.after ∙ ap (λ n. let v : HeldDescs = record c.self.inside.lists { lists = set c.self.inside.lists.lists (c.args.app - 1) (without n (held_by c.self.inside.lists c.args.app)) } in v) c.desc.ensures)
     (c.id_of-id.ensures ∙ ap message_id c.bytes.ensures) c.next_count-count.ensures.count c.next_count-count.ensures.after
     (seals_as c.self.inside c.args.self.now c.args.app c.args.buf c.self.view_is c.self.invariant c.requires.has c.args.held.now c.requires.bag c.unwrap-block.result (sym c.unwrap-block.ensures ∙ c.take_buffer.ensures.found) c.seal_front-desc.new.desk _ c.seal_front-desc.ensures.seals)
     c.seal_front-desc.ensures.pool c.seal_front-desc.ensures.numbers c.seal_front-desc.ensures.live
@@ -108,7 +108,7 @@ returns-clause-bag g c = λ lent none holds.
     passed_bag c.self.inside c.args.self.now c.args.app c.args.buf c.unwrap-block.result.bytes c.args.inc c.id_of-id.result c.unwrap-block.result.desc c.deliver-reached.result c.next_count-count.result
     c.seal_front-desc.new.desk c.settle_message.new.desk c.next_count-count.new.tables c.deliver-reached.new.self c.deliver-reached.new.misses c.let_go.new.self
     c.self.view_is c.self.invariant c.recall_order.ensures c.requires.bag.known (in_list c.self.inside c.args.self.now c.args.app c.args.buf c.self.view_is c.self.invariant c.requires.has c.args.held.now c.requires.bag c.unwrap-block.result (sym c.unwrap-block.ensures ∙ c.take_buffer.ensures.found)) (numbered_block c.self.inside c.args.self.now c.args.app c.args.buf c.self.view_is c.self.invariant c.requires.has c.args.held.now c.requires.bag c.unwrap-block.result (sym c.unwrap-block.ensures ∙ c.take_buffer.ensures.found)) (size_block c.self.inside c.args.self.now c.args.app c.args.buf c.self.view_is c.self.invariant c.requires.has c.args.held.now c.requires.bag c.unwrap-block.result (sym c.unwrap-block.ensures ∙ c.take_buffer.ensures.found))
-    (c.let_go.ensures.after ∙ ap (λ n. let v : Held = record c.self.inside.lists { lists = set c.self.inside.lists.lists (c.args.app - 1) (without n (held_by c.self.inside.lists c.args.app)) } in v) c.desc.ensures)
+    (c.let_go.ensures.after ∙ ap (λ n. let v : HeldDescs = record c.self.inside.lists { lists = set c.self.inside.lists.lists (c.args.app - 1) (without n (held_by c.self.inside.lists c.args.app)) } in v) c.desc.ensures)
     (c.id_of-id.ensures ∙ ap message_id c.bytes.ensures) c.next_count-count.ensures.count c.next_count-count.ensures.after
     (seals_as c.self.inside c.args.self.now c.args.app c.args.buf c.self.view_is c.self.invariant c.requires.has c.args.held.now c.requires.bag c.unwrap-block.result (sym c.unwrap-block.ensures ∙ c.take_buffer.ensures.found) c.seal_front-desc.new.desk _ c.seal_front-desc.ensures.seals)
     c.seal_front-desc.ensures.pool c.seal_front-desc.ensures.numbers c.seal_front-desc.ensures.live
@@ -125,7 +125,7 @@ returns-clause-other_bags g c =
     passed_others c.self.inside c.args.self.now c.args.app c.args.buf c.unwrap-block.result.bytes c.args.inc c.id_of-id.result c.unwrap-block.result.desc c.deliver-reached.result c.next_count-count.result
     c.seal_front-desc.new.desk c.settle_message.new.desk c.next_count-count.new.tables c.deliver-reached.new.self c.deliver-reached.new.misses c.let_go.new.self
     c.self.view_is c.self.invariant c.recall_order.ensures c.requires.bag.known (in_list c.self.inside c.args.self.now c.args.app c.args.buf c.self.view_is c.self.invariant c.requires.has c.args.held.now c.requires.bag c.unwrap-block.result (sym c.unwrap-block.ensures ∙ c.take_buffer.ensures.found)) (numbered_block c.self.inside c.args.self.now c.args.app c.args.buf c.self.view_is c.self.invariant c.requires.has c.args.held.now c.requires.bag c.unwrap-block.result (sym c.unwrap-block.ensures ∙ c.take_buffer.ensures.found)) (size_block c.self.inside c.args.self.now c.args.app c.args.buf c.self.view_is c.self.invariant c.requires.has c.args.held.now c.requires.bag c.unwrap-block.result (sym c.unwrap-block.ensures ∙ c.take_buffer.ensures.found))
-    (c.let_go.ensures.after ∙ ap (λ n. let v : Held = record c.self.inside.lists { lists = set c.self.inside.lists.lists (c.args.app - 1) (without n (held_by c.self.inside.lists c.args.app)) } in v) c.desc.ensures)
+    (c.let_go.ensures.after ∙ ap (λ n. let v : HeldDescs = record c.self.inside.lists { lists = set c.self.inside.lists.lists (c.args.app - 1) (without n (held_by c.self.inside.lists c.args.app)) } in v) c.desc.ensures)
     (c.id_of-id.ensures ∙ ap message_id c.bytes.ensures) c.next_count-count.ensures.count c.next_count-count.ensures.after
     (seals_as c.self.inside c.args.self.now c.args.app c.args.buf c.self.view_is c.self.invariant c.requires.has c.args.held.now c.requires.bag c.unwrap-block.result (sym c.unwrap-block.ensures ∙ c.take_buffer.ensures.found) c.seal_front-desc.new.desk _ c.seal_front-desc.ensures.seals)
     c.seal_front-desc.ensures.pool c.seal_front-desc.ensures.numbers c.seal_front-desc.ensures.live
@@ -140,7 +140,7 @@ returns-clause-view_bags g c =
     passed_views c.self.inside c.args.self.now c.args.app c.args.buf c.unwrap-block.result.bytes c.args.inc c.id_of-id.result c.unwrap-block.result.desc c.deliver-reached.result c.next_count-count.result
     c.seal_front-desc.new.desk c.settle_message.new.desk c.next_count-count.new.tables c.deliver-reached.new.self c.deliver-reached.new.misses c.let_go.new.self
     c.self.view_is c.self.invariant c.recall_order.ensures c.requires.bag.known (in_list c.self.inside c.args.self.now c.args.app c.args.buf c.self.view_is c.self.invariant c.requires.has c.args.held.now c.requires.bag c.unwrap-block.result (sym c.unwrap-block.ensures ∙ c.take_buffer.ensures.found)) (numbered_block c.self.inside c.args.self.now c.args.app c.args.buf c.self.view_is c.self.invariant c.requires.has c.args.held.now c.requires.bag c.unwrap-block.result (sym c.unwrap-block.ensures ∙ c.take_buffer.ensures.found)) (size_block c.self.inside c.args.self.now c.args.app c.args.buf c.self.view_is c.self.invariant c.requires.has c.args.held.now c.requires.bag c.unwrap-block.result (sym c.unwrap-block.ensures ∙ c.take_buffer.ensures.found))
-    (c.let_go.ensures.after ∙ ap (λ n. let v : Held = record c.self.inside.lists { lists = set c.self.inside.lists.lists (c.args.app - 1) (without n (held_by c.self.inside.lists c.args.app)) } in v) c.desc.ensures)
+    (c.let_go.ensures.after ∙ ap (λ n. let v : HeldDescs = record c.self.inside.lists { lists = set c.self.inside.lists.lists (c.args.app - 1) (without n (held_by c.self.inside.lists c.args.app)) } in v) c.desc.ensures)
     (c.id_of-id.ensures ∙ ap message_id c.bytes.ensures) c.next_count-count.ensures.count c.next_count-count.ensures.after
     (seals_as c.self.inside c.args.self.now c.args.app c.args.buf c.self.view_is c.self.invariant c.requires.has c.args.held.now c.requires.bag c.unwrap-block.result (sym c.unwrap-block.ensures ∙ c.take_buffer.ensures.found) c.seal_front-desc.new.desk _ c.seal_front-desc.ensures.seals)
     c.seal_front-desc.ensures.pool c.seal_front-desc.ensures.numbers c.seal_front-desc.ensures.live
@@ -157,7 +157,7 @@ drop_uses-requires g c =
           (passed_loose c.self.inside c.args.self.now c.args.app c.args.buf c.unwrap-block.result.bytes c.args.inc c.id_of-id.result c.unwrap-block.result.desc c.deliver-reached.result c.next_count-count.result
           c.seal_front-desc.new.desk c.settle_message.new.desk c.next_count-count.new.tables c.deliver-reached.new.self c.deliver-reached.new.misses c.let_go.new.self
           c.self.view_is c.self.invariant c.recall_order.ensures c.requires.bag.known (in_list c.self.inside c.args.self.now c.args.app c.args.buf c.self.view_is c.self.invariant c.requires.has c.args.held.now c.requires.bag c.unwrap-block.result (sym c.unwrap-block.ensures ∙ c.take_buffer.ensures.found)) (numbered_block c.self.inside c.args.self.now c.args.app c.args.buf c.self.view_is c.self.invariant c.requires.has c.args.held.now c.requires.bag c.unwrap-block.result (sym c.unwrap-block.ensures ∙ c.take_buffer.ensures.found)) (size_block c.self.inside c.args.self.now c.args.app c.args.buf c.self.view_is c.self.invariant c.requires.has c.args.held.now c.requires.bag c.unwrap-block.result (sym c.unwrap-block.ensures ∙ c.take_buffer.ensures.found))
-          (c.let_go.ensures.after ∙ ap (λ n. let v : Held = record c.self.inside.lists { lists = set c.self.inside.lists.lists (c.args.app - 1) (without n (held_by c.self.inside.lists c.args.app)) } in v) c.desc.ensures)
+          (c.let_go.ensures.after ∙ ap (λ n. let v : HeldDescs = record c.self.inside.lists { lists = set c.self.inside.lists.lists (c.args.app - 1) (without n (held_by c.self.inside.lists c.args.app)) } in v) c.desc.ensures)
           (c.id_of-id.ensures ∙ ap message_id c.bytes.ensures) c.next_count-count.ensures.count c.next_count-count.ensures.after
           (seals_as c.self.inside c.args.self.now c.args.app c.args.buf c.self.view_is c.self.invariant c.requires.has c.args.held.now c.requires.bag c.unwrap-block.result (sym c.unwrap-block.ensures ∙ c.take_buffer.ensures.found) c.seal_front-desc.new.desk _ c.seal_front-desc.ensures.seals)
           c.seal_front-desc.ensures.pool c.seal_front-desc.ensures.numbers c.seal_front-desc.ensures.live
@@ -174,7 +174,7 @@ returns-clause-cost g c =
     (passed_drops c.self.inside c.args.self.now c.args.app c.args.buf c.unwrap-block.result.bytes c.args.inc c.id_of-id.result c.unwrap-block.result.desc c.deliver-reached.result c.next_count-count.result
     c.seal_front-desc.new.desk c.settle_message.new.desk c.next_count-count.new.tables c.deliver-reached.new.self c.deliver-reached.new.misses c.let_go.new.self
     c.self.view_is c.self.invariant c.recall_order.ensures c.requires.bag.known (in_list c.self.inside c.args.self.now c.args.app c.args.buf c.self.view_is c.self.invariant c.requires.has c.args.held.now c.requires.bag c.unwrap-block.result (sym c.unwrap-block.ensures ∙ c.take_buffer.ensures.found)) (numbered_block c.self.inside c.args.self.now c.args.app c.args.buf c.self.view_is c.self.invariant c.requires.has c.args.held.now c.requires.bag c.unwrap-block.result (sym c.unwrap-block.ensures ∙ c.take_buffer.ensures.found)) (size_block c.self.inside c.args.self.now c.args.app c.args.buf c.self.view_is c.self.invariant c.requires.has c.args.held.now c.requires.bag c.unwrap-block.result (sym c.unwrap-block.ensures ∙ c.take_buffer.ensures.found))
-    (c.let_go.ensures.after ∙ ap (λ n. let v : Held = record c.self.inside.lists { lists = set c.self.inside.lists.lists (c.args.app - 1) (without n (held_by c.self.inside.lists c.args.app)) } in v) c.desc.ensures)
+    (c.let_go.ensures.after ∙ ap (λ n. let v : HeldDescs = record c.self.inside.lists { lists = set c.self.inside.lists.lists (c.args.app - 1) (without n (held_by c.self.inside.lists c.args.app)) } in v) c.desc.ensures)
     (c.id_of-id.ensures ∙ ap message_id c.bytes.ensures) c.next_count-count.ensures.count c.next_count-count.ensures.after
     (seals_as c.self.inside c.args.self.now c.args.app c.args.buf c.self.view_is c.self.invariant c.requires.has c.args.held.now c.requires.bag c.unwrap-block.result (sym c.unwrap-block.ensures ∙ c.take_buffer.ensures.found) c.seal_front-desc.new.desk _ c.seal_front-desc.ensures.seals)
     c.seal_front-desc.ensures.pool c.seal_front-desc.ensures.numbers c.seal_front-desc.ensures.live

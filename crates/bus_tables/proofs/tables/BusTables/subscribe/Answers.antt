@@ -4,7 +4,7 @@ use Rattle.std.proofs.lemmas.List.{length-map}
 use Rattle.bus_words.specs.Bus as bus
 use Rattle.std.specs.Option.{IsSome}
 use Rattle.std.proofs.lemmas.List.Elements.{All-nil, All-cons, All-append}
-use Rattle.subscriptions.specs.Subs.{Subscription, Subscribed}
+use Rattle.subscriptions.specs.Subs.{LiveSubscription, Subscribed}
 use Rattle.routing.specs.Dests.{last_node}
 use Rattle.routing.specs.Routing.{Routing, dests_at, with_dests}
 use Rattle.bus_tables.specs.Rows.{Row, has_way, with_route}
@@ -53,7 +53,7 @@ pub invariant_of-self : goal.invariant_of-self
 invariant_of-self g c =
     let s = c.self.inside in
     let made = c.route_for-route in
-    let sub : Subscription = record { slot = c.add-sub.result.slot; number = c.add-sub.result.number; id = c.args.id; pipe = c.args.pipe; place = c.unwrap-place.result; limit = c.args.limit; scope = c.args.scope; waiting = 0 } in
+    let sub : LiveSubscription = record { slot = c.add-sub.result.slot; number = c.add-sub.result.number; id = c.args.id; pipe = c.args.pipe; place = c.unwrap-place.result; limit = c.args.limit; scope = c.args.scope; waiting = 0 } in
     let lead = leads s.subs s.routes made.new.routes c.args.id made.result c.self.invariant.routed made.ensures.old made.ensures.new in
     let node = last_node (dests_at c.add_dest.new.self made.result) in
     let after : Routing = with_dests made.new.routes made.result (dests_at made.new.routes made.result ++ (node, c.add-sub.result) ∷ []) in
@@ -81,7 +81,7 @@ pub returns-clause-after : goal.returns-clause-after
 returns-clause-after g c =
     let s = c.self.inside in
     let made = c.route_for-route in
-    let sub : Subscription = record { slot = c.add-sub.result.slot; number = c.add-sub.result.number; id = c.args.id; pipe = c.args.pipe; place = c.unwrap-place.result; limit = c.args.limit; scope = c.args.scope; waiting = 0 } in
+    let sub : LiveSubscription = record { slot = c.add-sub.result.slot; number = c.add-sub.result.number; id = c.args.id; pipe = c.args.pipe; place = c.unwrap-place.result; limit = c.args.limit; scope = c.args.scope; waiting = 0 } in
     let lead = leads s.subs s.routes made.new.routes c.args.id made.result c.self.invariant.routed made.ensures.old made.ensures.new in
     let node = last_node (dests_at c.add_dest.new.self made.result) in
     let after : Routing = with_dests made.new.routes made.result (dests_at made.new.routes made.result ++ (node, c.add-sub.result) ∷ []) in

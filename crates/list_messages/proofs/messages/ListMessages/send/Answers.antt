@@ -1,4 +1,6 @@
 use Rattle.std.proofs.Common.{◌≡◌, ◌+◌, refl, sym, subst, ap, ◌∙◌}
+use Rattle.bus_words.specs.Bus.{Sending, any_send, missed}
+use Rattle.bus_words.proofs.MissedItems.{missed-any}
 use Rattle.fsw_base.specs.PoolAccounts.{Account, has_room, after_request}
 use Rattle.list_messages.specs.Messages.{Messages, Named, IsKept, account_in, sending_of, with_sent}
 use Rattle.list_messages.specs.Inside.{named_in}
@@ -23,6 +25,13 @@ returns-clause-after c =
     rw (c.drop_name.ensures, c.in_ok-settle.ensures, c.in_ok-draw.ensures, c.in_ok-done.ensures.pipes, c.in_ok-sending.ensures, next)
     (ap drawn (kept_account m.sends.uses m.given m.pipes.items m.unsent.items m.created holds m.sends part refl refl)
     ∙ ap (λ (t : Named). sent t.part) c.self.view_is)
+
+pub returns-clause-misses : goal.returns-clause-misses
+returns-clause-misses c =
+    let m = c.self.inside in
+    let sending : Sending = record { sender = c.args.sender; number = c.in_ok-number.number; asked = c.args.size; message = c.args.message.items } in
+    rw (c.in_ok-done.ensures.misses, c.in_ok-sending.ensures)
+    (missed-any sending c.args.subs.now m.pipes.items ∙ ap (λ (t : Named). missed (any_send c.args.sender) c.args.subs.now t.part.pipes) c.self.view_is)
 
 pub returns-clause-kept : goal.returns-clause-kept
 returns-clause-kept c =

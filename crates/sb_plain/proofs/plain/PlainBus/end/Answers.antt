@@ -6,7 +6,6 @@ use Rattle.lend_block.specs.Loan.{LentBytes}
 use Rattle.buf_desc.specs.Held.{Holding}
 use Rattle.bus_words.specs.declared.calls.BusAnswer.TheVariants.{Done}
 use Rattle.bus_words.specs.declared.history.Call.TheVariants.{End}
-use Rattle.bus_words.specs.Acts.{reads_in}
 use Rattle.bus_records.specs.Records.{Recordings, peaks_raised}
 use Rattle.bus_records.proofs.Leaves.{ended_left}
 use Rattle.bus_store.specs.Store.{Store}
@@ -47,7 +46,7 @@ returns-clause-does g c =
     let told : Recordings = record a.records { events = unregistered a.records.events c.args.app } in
     acts_seen a next acts c.end.new.self c.args.self.now c.args.app End Done c.self.view_is
     (ended_made a acts next c.end.new.self c.args.app ends left out c.end.ensures.after) told c.see.new.records
-    (ended_left (limits_of a.config) (reads_in w) w.bus c.args.app Done (means (record a { activities = acts; store = next; pools = c.end.new.self })).bus)
+    (ended_left (limits_of a.config) w.bus c.args.app Done (means (record a { activities = acts; store = next; pools = c.end.new.self })).bus)
     (c.see.ensures.seen ∙ ap (λ r. peaks_raised r (in_use_at next)) c.unregister.ensures) order.pool c.see.ensures.held
 
 pub returns-clause-empty : goal.returns-clause-empty

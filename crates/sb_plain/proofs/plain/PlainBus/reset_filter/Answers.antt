@@ -1,7 +1,6 @@
 use Rattle.std.proofs.Common.{sym, ◌∙◌}
 use Rattle.fsw_base.specs.Limits.{limits_of}
 use Rattle.bus_words.specs.declared.history.Call.TheVariants.{ResetFilter}
-use Rattle.bus_words.specs.Acts.{reads_in}
 use Rattle.bus_records.proofs.Leaves.{filter_reset_left}
 use Rattle.sb_plain.specs.Answers.{event_told}
 use Rattle.sb_plain.specs.Inside.{means}
@@ -14,4 +13,4 @@ returns-clause-does c =
     let a = c.self.inside in
     let w = means a in
     acts_from a a.store a.activities a.pools c.args.self.now c.args.app (ResetFilter c.args.id) (event_told c.reset_filter.result) c.self.view_is (reset_made a c.args.app c.args.id c.reset_filter.result c.reset_filter.ensures.refusal) c.reset_filter.new.self
-    (filter_reset_left (limits_of a.config) (reads_in w) w.bus c.args.app c.args.id (event_told c.reset_filter.result) w.bus c.self.invariant.covered ∙ sym c.reset_filter.ensures.records)
+    (filter_reset_left (limits_of a.config) w.bus c.args.app c.args.id (event_told c.reset_filter.result) w.bus c.self.invariant.covered ∙ sym c.reset_filter.ensures.records)

@@ -1,7 +1,6 @@
 use Rattle.std.proofs.Common.{sym, ◌∙◌}
 use Rattle.fsw_base.specs.Limits.{limits_of}
 use Rattle.bus_words.specs.declared.history.Call.TheVariants.{SendEvent}
-use Rattle.bus_words.specs.Acts.{reads_in}
 use Rattle.bus_records.proofs.Leaves.{event_sent_left}
 use Rattle.sb_plain.specs.Answers.{event_told}
 use Rattle.sb_plain.specs.Inside.{means}
@@ -14,4 +13,4 @@ returns-clause-does c =
     let a = c.self.inside in
     let w = means a in
     acts_from a a.store a.activities a.pools c.args.self.now c.args.app (SendEvent c.args.id c.args.kind c.args.text.now) (event_told c.send_event.result) c.self.view_is (event_made a c.args.app c.args.id c.args.kind c.args.text.now c.send_event.result c.send_event.ensures.refusal) c.send_event.new.self
-    (event_sent_left (limits_of a.config) (reads_in w) w.bus c.args.app c.args.id c.args.kind c.args.text.now (event_told c.send_event.result) w.bus c.self.invariant.covered ∙ sym c.send_event.ensures.records)
+    (event_sent_left (limits_of a.config) w.bus c.args.app c.args.id c.args.kind c.args.text.now (event_told c.send_event.result) w.bus c.self.invariant.covered ∙ sym c.send_event.ensures.records)

@@ -4,7 +4,6 @@ use Rattle.fsw_base.specs.Limits.{limits_of}
 use Rattle.housekeeping.specs.declared.names.CounterName.TheVariants as counters
 use Rattle.bus_words.specs.declared.calls.BusAnswer.TheVariants.{Done}
 use Rattle.bus_words.specs.declared.history.Call.TheVariants.{Subscribe}
-use Rattle.bus_words.specs.Acts.{reads_in}
 use Rattle.bus_words.specs.Bus.{is_subscribed}
 use Rattle.bus_words.specs.Machine.{by_bus, subscribe_cause}
 use Rattle.bus_tables.specs.Rows.{RouteRow}
@@ -44,7 +43,7 @@ returns-then-there-clause-does g c =
     let why = at_fields a c.args.self.now c.self.view_is (λ limits s. subscribe_cause limits s c.args.app c.args.id c.args.pipe) None (sym c.subscribe_cause.ensures ∙ c.in_default.is) in
     acts_from a a.store a.activities a.pools c.args.self.now c.args.app (Subscribe c.args.id c.args.pipe c.args.limit c.args.scope) Done c.self.view_is
     (live_made a c.args.app c.args.id c.args.pipe c.args.limit c.args.scope why c.self.invariant.order live) c.tell.new.self
-    (duplicate_left limits (reads_in w) w.bus c.args.app c.args.id c.args.pipe c.args.limit c.args.scope w.bus live c.self.invariant.covered ∙ sym c.tell.ensures)
+    (duplicate_left limits w.bus c.args.app c.args.id c.args.pipe c.args.limit c.args.scope w.bus live c.self.invariant.covered ∙ sym c.tell.ensures)
 
 pub subscribe-requires-clause-first : goal.subscribe-requires-clause-first
 subscribe-requires-clause-first g c =
@@ -110,5 +109,5 @@ returns-clause-does g c =
     let order = subscribed_keeps a c.args.app c.args.id c.args.pipe c.args.limit c.args.scope why c.self.invariant.order next c.subscribe.ensures.after in
     acts_seen a next a.activities a.pools c.args.self.now c.args.app (Subscribe c.args.id c.args.pipe c.args.limit c.args.scope) Done c.self.view_is
     (subscribed_made a c.args.app c.args.id c.args.pipe c.args.limit c.args.scope why c.self.invariant.order next c.subscribe.ensures.after fresh) a.records c.see.new.records
-    (subscribed_left limits (reads_in w) w.bus c.args.app c.args.id c.args.pipe c.args.limit c.args.scope (means (record a { store = next })).bus fresh)
+    (subscribed_left limits w.bus c.args.app c.args.id c.args.pipe c.args.limit c.args.scope (means (record a { store = next })).bus fresh)
     c.see.ensures.seen order.pool c.see.ensures.held

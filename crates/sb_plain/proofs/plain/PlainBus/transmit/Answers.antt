@@ -69,7 +69,7 @@ returns-then-dests_of-eq0-clause-does g c = λ left.
     let none = nil_from_length (route a.store.subscriptions (message_id bytes)) (ap (λ n. length (route a.store.subscriptions n)) (sym c.id_of-id.ensures) ∙ sym c.dests_of.ensures ∙ c.if-dests_of-eq0.true) in
     acts_from a a.store a.activities a.pools c.args.self.now c.args.app (Transmit bytes c.args.inc) (Sent 0 0) c.self.view_is
     (nobody_made a c.args.app bytes c.args.inc why none) c.tell.new.self
-    (unheard_left limits (reads_in w) w.bus c.args.app bytes c.args.inc 0 0 w.bus none c.self.invariant.covered
+    (unheard_left limits w.bus c.args.app bytes c.args.inc 0 0 w.bus none c.self.invariant.covered
     ∙ ap (λ n. told_event a.records (NoSubscribers n)) (sym c.id_of-id.ensures) ∙ sym c.tell.ensures)
 
 pub send-sent-requires-clause-least : goal.send-sent-requires-clause-least
@@ -116,7 +116,7 @@ returns-clause-does g c = λ left.
     acts_seen a next a.activities a.pools c.args.self.now c.args.app (Transmit bytes c.args.inc) (Sent number arrived) c.self.view_is
     (sent_made a next c.args.app bytes c.args.inc is keeps someone.first someone.more number arrived someone.is why c.recall_held.ensures c.send-sent.ensures.number c.send-sent.ensures.reached)
     _ c.see_blocks.new.records
-    (sent_left limits (reads_in w) w.bus c.args.app bytes c.args.inc number arrived (means (record a { store = next })).bus someone.first someone.more someone.is)
+    (sent_left limits w.bus c.args.app (reads_in w) bytes c.args.inc number arrived (means (record a { store = next })).bus someone.first someone.more someone.is)
     (seen ∙ ap (λ r. peaks_raised r (in_use_at next)) told)
     (sent_keeps a next c.args.app bytes c.args.inc is keeps).pool c.see_blocks.ensures.held
 

@@ -56,7 +56,7 @@ returns-then-dests_of-eq0-clause-does g c =
     acts_seen a next a.activities a.pools old c.args.app (TransmitBuffer c.args.buf bytes c.args.inc) (Sent 0 0) c.self.view_is
     (unheard_made a next c.args.app c.args.buf is bytes c.args.inc why none)
     (told_event a.records (NoSubscribers (message_id bytes))) c.see.new.records
-    (unheard_buffer_left (limits_of a.config) (reads_in w) w.bus c.args.app c.args.buf bytes c.args.inc 0 0 (means (record a { store = next })).bus none)
+    (unheard_buffer_left (limits_of a.config) w.bus c.args.app c.args.buf bytes c.args.inc 0 0 (means (record a { store = next })).bus none)
     (c.see.ensures.seen ∙ ap (λ r. peaks_raised r (in_use_at next)) (c.tell.ensures ∙ ap (λ n. told_event a.records (NoSubscribers n)) c.in-Ok.ensures.id))
     (gone_keeps a next c.args.app c.args.buf is c.self.invariant.order).pool c.see.ensures.held
 
@@ -111,7 +111,7 @@ returns-clause-does g c =
     (passed_made a next c.args.app c.args.buf bytes c.args.inc is keeps someone.first someone.more number arrived someone.is why c.transmit_buffer-sent.ensures.first
     c.transmit_buffer-sent.ensures.number c.transmit_buffer-sent.ensures.reached)
     _ c.see_blocks.new.records
-    (sent_buffer_left (limits_of a.config) (reads_in w) w.bus c.args.app c.args.buf bytes c.args.inc number arrived (means (record a { store = next })).bus someone.first someone.more someone.is)
+    (sent_buffer_left (limits_of a.config) w.bus c.args.app (reads_in w) c.args.buf bytes c.args.inc number arrived (means (record a { store = next })).bus someone.first someone.more someone.is)
     (seen ∙ ap (λ r. peaks_raised r (in_use_at next)) told)
     (passed_keeps a next c.args.app c.args.buf bytes c.args.inc is keeps).pool c.see_blocks.ensures.held
 

@@ -3,7 +3,7 @@ use Rattle.std.proofs.Common.{◌≡◌, ◌+◌, ◌++◌, ◌∷◌, [], lengt
 use Rattle.std.specs.List.{list_any}
 use Rattle.std.proofs.lemmas.List.{length-set}
 use Rattle.subscriptions.specs.declared.place.Place.{Place}
-use Rattle.subscriptions.specs.Subs.{Subscribed, Subscription}
+use Rattle.subscriptions.specs.Subs.{Subscribed, LiveSubscription}
 use Rattle.subscriptions.specs.Inside.{live_upto, with_slot, AreKept}
 use Rattle.subscriptions.proofs.Grown.{kept_grown, live_grown_slots, length_grown}
 use Rattle.subscriptions.proofs.Slots.{not_in_use}
@@ -54,6 +54,6 @@ returns-clause-after c =
     let slot = c.take_slot-slot.result in
     let p : Place = record { number = s.made + 1; id = c.args.id; pipe = c.args.pipe; place = c.args.place; limit = c.args.limit; scope = c.args.scope; waiting = 0 } in
     let grown = live_grown c.take_slot-slot.new.slots.items c.take_slot-slot.new.free.items s.made (s.made + 1) slot p (kept c) (add-one s.made) refl in
-    let new : Subscription = record { slot = slot; number = s.made + 1; id = c.args.id; pipe = c.args.pipe; place = c.args.place; limit = c.args.limit; scope = c.args.scope; waiting = 0 } in
+    let new : LiveSubscription = record { slot = slot; number = s.made + 1; id = c.args.id; pipe = c.args.pipe; place = c.args.place; limit = c.args.limit; scope = c.args.scope; waiting = 0 } in
     ap (λ xs. let v : Subscribed = record { room = s.room; made = s.made + 1; live = xs } in v) (grown ∙ ap (λ xs. xs ++ new ∷ []) (still_live c))
     ∙ ap (λ v. let w : Subscribed = record { room = v.room; made = s.made + 1; live = v.live ++ new ∷ [] } in w) c.self.view_is

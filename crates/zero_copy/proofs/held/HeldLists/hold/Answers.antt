@@ -1,7 +1,7 @@
 use Rattle.std.proofs.Common.{◌≡◌, ◌+◌, ◌-◌, ◌<◌, ◌∙◌, ◌∷◌, [], List, ℕ, length, get_or, set, refl, ap, arith}
 use Rattle.std.proofs.lemmas.List.{get_or_read, length-set}
 use Rattle.bucket_list.specs.Lists.{times}
-use Rattle.zero_copy.specs.Held.{Held, held_by}
+use Rattle.zero_copy.specs.Held.{HeldDescs, held_by}
 use Rattle.zero_copy.specs.Inside.{rings}
 use Rattle.zero_copy.proofs.Changes.{length-rings, hold_read, hold_fits, first_inside}
 use Rattle.zero_copy.proofs.held.HeldLists.hold.Goals as goal
@@ -74,7 +74,7 @@ returns-clause-after g c =
     let count = get_or_read s.counts.items k c.index_mut.result.now h c.index_mut.ensures.value 0 in
     let done = hold_read s.next c.write.new.self c.write-3.new.self s.prev c.write-2.new.self c.write-4.new.self s.counts.items s.owners.items s.descs k (s.descs + k) c.args.desc c.read-first.result c.index_mut.result.now c.self.invariant h within free count
     refl c.read-first.ensures.value c.write.ensures.after c.write-2.ensures.after c.write-3.ensures.after c.write-4.ensures.after in
-    let held : ℕ → List (List ℕ) → Held = λ descs lists. record { descs = descs; lists = lists } in
+    let held : ℕ → List (List ℕ) → HeldDescs = λ descs lists. record { descs = descs; lists = lists } in
     ap (held s.descs) done.after
     ∙ (ap (λ app. held s.descs (set (rings s.next s.descs s.counts.items) (app - 1) (c.args.desc ∷ get_or (rings s.next s.descs s.counts.items) (app - 1) []))) c.get-place.ensures.value
-    ∙ ap (λ (v : Held). held v.descs (set v.lists (c.args.app - 1) (c.args.desc ∷ held_by v c.args.app))) c.self.view_is)
+    ∙ ap (λ (v : HeldDescs). held v.descs (set v.lists (c.args.app - 1) (c.args.desc ∷ held_by v c.args.app))) c.self.view_is)

@@ -1,7 +1,7 @@
 use Rattle.std.proofs.Common.{◌≡◌, ◌-◌, ◌<◌, ◌∙◌, [], List, ℕ, length, get_or, set, ap, arith}
 use Rattle.std.proofs.lemmas.List.{get_or_read}
 use Rattle.bucket_list.specs.Lists.{times_in}
-use Rattle.zero_copy.specs.Held.{Held, held_by, without}
+use Rattle.zero_copy.specs.Held.{HeldDescs, held_by, without}
 use Rattle.zero_copy.specs.Inside.{rings}
 use Rattle.zero_copy.proofs.Changes.{length-rings, desc_in, let_go_read, before_inside, behind_inside, some_counted}
 use Rattle.zero_copy.proofs.held.HeldLists.let_go.Goals as goal
@@ -101,10 +101,10 @@ returns-clause-after g c =
     let count = get_or_read s.counts.items k c.index_mut.result.now h c.index_mut.ensures.value 0 in
     let done = let_go_read s.next c.write.new.self s.prev c.write-2.new.self s.counts.items s.owners.items s.descs k c.args.desc c.read-before.result c.read-behind.result c.index_mut.result.now c.self.invariant h held count
     c.read-before.ensures.value c.read-behind.ensures.value c.write.ensures.after c.write-2.ensures.after in
-    let to : ℕ → List (List ℕ) → Held = λ descs lists. record { descs = descs; lists = lists } in
+    let to : ℕ → List (List ℕ) → HeldDescs = λ descs lists. record { descs = descs; lists = lists } in
     ap (to s.descs) done.changed.after
     ∙ (ap (λ app. to s.descs (set (rings s.next s.descs s.counts.items) (app - 1) (without c.args.desc (get_or (rings s.next s.descs s.counts.items) (app - 1) [])))) c.get-place.ensures.value
-    ∙ ap (λ (v : Held). to v.descs (set v.lists (c.args.app - 1) (without c.args.desc (held_by v c.args.app)))) c.self.view_is)
+    ∙ ap (λ (v : HeldDescs). to v.descs (set v.lists (c.args.app - 1) (without c.args.desc (held_by v c.args.app)))) c.self.view_is)
 
 pub returns-clause-let_go : goal.returns-clause-let_go
 returns-clause-let_go g c =

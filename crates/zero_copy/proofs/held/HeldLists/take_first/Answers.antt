@@ -2,7 +2,7 @@ use Rattle.std.proofs.Common.{◌≡◌, ◌+◌, ◌-◌, ◌<◌, ◌≤◌, �
 use Rattle.std.proofs.lemmas.List.{get_or_read, get_or-set_same, set-get_or, nil_from_length}
 use Rattle.bucket_list.specs.Lists.{times_in}
 use Rattle.bucket_list.proofs.ListInvariant.{empty_or_not}
-use Rattle.zero_copy.specs.Held.{Held, held_by, without}
+use Rattle.zero_copy.specs.Held.{HeldDescs, held_by, without}
 use Rattle.zero_copy.specs.Inside.{rings}
 use Rattle.zero_copy.proofs.Links.{first_in}
 use Rattle.zero_copy.proofs.Changes.{length-rings, desc_in, first_read, without_head, once_listed}
@@ -41,7 +41,7 @@ returns-then-index-eq0-clause-after g c =
     let empty = nil_from_length ds none in
     let lists = c.args.self.now.lists in
     let stays : lists ≡ set lists (c.args.app - 1) (drop 1 ds) = sym (set-get_or lists (c.args.app - 1) []) ∙ ap (set lists (c.args.app - 1)) (empty ∙ sym (ap (drop 1) empty)) in
-    ap (λ ls. let v : Held = record { descs = c.args.self.now.descs; lists = ls } in v) stays
+    ap (λ ls. let v : HeldDescs = record { descs = c.args.self.now.descs; lists = ls } in v) stays
 
 pub overflow_add-self-inside : goal.overflow_add-self-inside
 overflow_add-self-inside g c =
@@ -116,7 +116,7 @@ returns-clause-after g c =
     let ds = held_by c.args.self.now c.args.app in
     let front : ds ≡ c.read-first.result ∷ drop 1 ds = sym same ∙ (first ∙ ap (λ ns. c.read-first.result ∷ drop 1 ns) same) in
     let gone : without c.read-first.result ds ≡ drop 1 ds = without_head c.read-first.result (drop 1 ds) ds front (λ q. subst (λ ns. times_in ns q ≤ 1) same (once_listed s.next s.prev s.counts.items s.owners.items s.descs k c.self.invariant h q)) in
-    c.let_go.ensures.after ∙ ap (λ ns. let v : Held = record { descs = c.args.self.now.descs; lists = set c.args.self.now.lists (c.args.app - 1) ns } in v) gone
+    c.let_go.ensures.after ∙ ap (λ ns. let v : HeldDescs = record { descs = c.args.self.now.descs; lists = set c.args.self.now.lists (c.args.app - 1) ns } in v) gone
 
 pub returns-clause-exists : goal.returns-clause-exists
 returns-clause-exists g c =
@@ -131,6 +131,6 @@ returns-clause-exists g c =
     omega (
       arith,
       desc_in s.next s.prev s.counts.items s.owners.items s.descs k c.read-first.result c.self.invariant h there,
-      ap (λ (v : Held). v.descs) c.let_go.ensures.after,
-      ap (λ (v : Held). v.descs) c.self.view_is,
+      ap (λ (v : HeldDescs). v.descs) c.let_go.ensures.after,
+      ap (λ (v : HeldDescs). v.descs) c.self.view_is,
     )

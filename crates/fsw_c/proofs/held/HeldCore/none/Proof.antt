@@ -32,11 +32,11 @@ use Rattle.std.proofs.alloc.Calls.{handle_tells, α, Fits}
 use Rattle.std_alloc.proofs.ResultValues.{and_tt}
 use Rattle.std_heap.specs.contracts.Global as Heap
 use Rattle.fsw_c.proofs.AsBox.{E}
-use Rattle.fsw_c.specs.contracts.held.Held as Held
-use Rattle.fsw_c.specs.contracts.held.Held.none as F
-use Rattle.fsw_c.specs.contracts.held.Held.none.Key.{name as #self}
-use Rattle.fsw_c.proofs.held.Held.none.Statement as stated
-use Rattle.fsw_c.proofs.held.Held.none.Code as code
+use Rattle.fsw_c.specs.contracts.held.HeldCore as HeldCore
+use Rattle.fsw_c.specs.contracts.held.HeldCore.none as F
+use Rattle.fsw_c.specs.contracts.held.HeldCore.none.Key.{name as #self}
+use Rattle.fsw_c.proofs.held.HeldCore.none.Statement as stated
+use Rattle.fsw_c.proofs.held.HeldCore.none.Code as code
 
 abbrev stayed : Stays (F.ended).signature.params (F.ended).kept
 stayed = (stay_dropped (plain (λ _. Heap.the_row)) yes, tt)
@@ -44,7 +44,7 @@ stayed = (stay_dropped (plain (λ _. Heap.the_row)) yes, tt)
 abbrev word : Ptr → Val → Val
 word p hv = vstruct (vcons (ptr_val p) (vcons hv vnil))
 
-word_typed : (hv : Val) → Fits E.al hv → T (has_ty (layout Held.the_row) (word null_ptr hv)) × WT (word null_ptr hv)
+word_typed : (hv : Val) → Fits E.al hv → T (has_ty (layout HeldCore.the_row) (word null_ptr hv)) × WT (word null_ptr hv)
 word_typed hv fa = (and_tt (has_ty (α E.al) hv) fa.0, (record { fits = lit< tt }, (fa.1, tt)))
 
 module _ {M : Type 1} {𝓤 : Ura M} (𝓛 : Logic 𝓤) (at_mem : Memory → SProp 𝓤) (run : Routine → Fun 𝓤) (𝓣 : Tables 𝓤 𝓛.H) where
@@ -63,7 +63,7 @@ module _ {M : Type 1} {𝓤 : Ura M} (𝓛 : Logic 𝓤) (at_mem : Memory → SP
       let w = word p hv in
       suffices ! (Run (hv ∷ [])) (subst (λ (us : List Val). ent 𝓤 (Run (hv ∷ [])) (Run us)) (sym (λ i. eh i ++ [])) (id⊢ 𝓤 (Run (hv ∷ [])))) $
       move ! (0 ∷ 1 ∷ []) $ fjoin ! $ feq_i ! (List Val) (ptr_val p ∷ []) (ptr_val p ∷ []) refl $ fjoin ! $ feq_i ! (List Val) (w ∷ []) (w ∷ []) refl $ fjoin ! $
-      fpack ! (Valss (RawPtr ∷ Heap.the_row ∷ [])) (within (shape Held.the_type) (p, (_, tt)) (w ∷ [])) (ptr_val p ∷ [], (hv ∷ [], tt)) $ nothing ! $ move ! (1 ∷ 0 ∷ []) $ fjoin ! $
+      fpack ! (Valss (RawPtr ∷ Heap.the_row ∷ [])) (within (shape HeldCore.the_type) (p, (_, tt)) (w ∷ [])) (ptr_val p ∷ [], (hv ∷ [], tt)) $ nothing ! $ move ! (1 ∷ 0 ∷ []) $ fjoin ! $
       use1 𝓛 (‵ (To.own_val made (w ∷ []))) (id⊢ 𝓤 _) $
       enter ! 𝓣.C 𝓣.Λ code.function (hv ∷ []) Post $ alloc_all ! (λ ls. pass_all ! refl (fa, tt) $
       sets ! (agg ! (and_then ! (lit ! tt) (and_then ! (get ! refl) (no_more !)))) refl (word_typed hv fa) $ returns ! (look_at ! 0 refl) $ free_all ! refl $
