@@ -191,6 +191,7 @@ impl<'r> Desk<'r> {
     /// Takes a block, writes a message into it, with the sequence count where there is one, and
     /// seals it for the send of this number. Answers its descriptor, which has no use yet. By the
     /// code, each byte and the block's slot are written once. At most 8 steps.
+    #[inline(always)]
     pub fn put_copy<L: Ledger>(
         &mut self,
         bytes: &[u8],

@@ -82,6 +82,7 @@ impl<'r> BusStore<'r> {
     /// once. A message that a full pipe drops for it is let go after that: its block goes back
     /// if no other pipe has a use for it. No bag changes. At most 4 steps for each subscription
     /// of the id, 8 more for each whose pipe drops a message, and 32 more.
+    #[inline(always)]
     pub fn send<L: Ledger>(
         &mut self,
         sender: AppNo,

@@ -95,6 +95,7 @@ impl<'r> PlainBus<'r> {
     }
 
     /// Why the bytes can't be sent.
+    #[inline(always)]
     pub(crate) fn transmit_cause(&self, bytes: &[u8]) -> Option<SbStatus>
         requires { length bytes.now ≤ 65542 }
         ensures { result ≡ transmit_cause self.now.limits self.now.whole.bus bytes.now }

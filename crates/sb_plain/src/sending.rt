@@ -41,6 +41,7 @@ impl<'r> PlainBus<'r> {
     /// has no block for so many bytes. The first that applies; it is counted. If no send number is
     /// left ([`PlainBus::has_send_number`]), every send is refused with `BufAlocErr`, whatever its
     /// bytes.
+    #[inline(always)]
     pub fn transmit<L: Ledger>(
         &mut self,
         app: AppNo,
