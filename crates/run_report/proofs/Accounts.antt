@@ -5,10 +5,12 @@ use Rattle.std.proofs.lemmas.Bool.Decides.{nat_tests}
 use Rattle.std.proofs.lemmas.Grind.{flat_map-append}
 use Rattle.std.proofs.lemmas.List.FromFn.{fill_by_all, get_or-map-range_with_len, length-map-range_with_len}
 use Rattle.fsw_base.specs.PoolAccounts.{Account, cost_of}
+use Rattle.fsw_base.specs.declared.config.PoolStats.{PoolStats}
+use Rattle.es_pool.specs.declared.blocks.ClassStats.{ClassStats}
 use Rattle.es_pool.specs.Account.{IsAccountOf}
 use Rattle.es_pool.specs.Pool.{PoolState, IsWhole, free_in, made_in, out_in, rest_of}
 use Rattle.run_report.specs.declared.pools.PoolName.{PoolName}
-use Rattle.run_report.specs.CounterText.{account_read, field_text, class_head, class_text}
+use Rattle.run_report.specs.CounterText.{account_read, class_in, figures_in, field_text, class_head, class_text}
 use Rattle.es_pool.proofs.Law.{rest_alike}
 use Rattle.es_pool.proofs.Totals.{made-split}
 
@@ -51,16 +53,30 @@ one_account pool account is =
     ∙ ap (λ n. the_account now.bytes now.sizes now.made now.out now.requests n) is.errors
 
 -- the bytes never cut
-pub rest-read : (pool : PoolState) → IsWhole pool → rest_of pool ≡ pool.bytes - cost_of (account_read pool).made pool.sizes
+rest-read : (pool : PoolState) → IsWhole pool → rest_of pool ≡ pool.bytes - cost_of (account_read pool).made pool.sizes
 rest-read pool whole = ap (λ used. pool.bytes - used) (sym (rest_alike pool (account_read pool) (is_account pool whole)))
 
 -- the blocks of a size that were cut, and those that are free
-pub made-read : (pool : PoolState) (class : ℕ) → class < length pool.sizes → made_in pool.blocks class ≡ slice_index (account_read pool).made class
+made-read : (pool : PoolState) (class : ℕ) → class < length pool.sizes → made_in pool.blocks class ≡ slice_index (account_read pool).made class
 made-read pool class there = sym (read-made pool class there)
 
-pub free-read : (pool : PoolState) (class : ℕ) → class < length pool.sizes →
+free-read : (pool : PoolState) (class : ℕ) → class < length pool.sizes →
     free_in pool.blocks class ≡ slice_index (account_read pool).made class - slice_index (account_read pool).out class
 free-read pool class there = omega (arith, made-split pool.blocks class, read-made pool class there, read-out pool class there)
+
+-- what a pool tells is what its account says
+pub figures-read : (pool : PoolState) (figures : PoolStats) → IsWhole pool →
+    figures ≡ record { size = pool.bytes; requests = pool.requests; errors = pool.errors; free = rest_of pool } → figures ≡ figures_in (account_read pool)
+figures-read pool figures whole is =
+    is ∙ ap (λ (n : ℕ). record { size = pool.bytes; requests = pool.requests; errors = pool.errors; free = n }) (rest-read pool whole)
+
+pub class-read : (pool : PoolState) (class : ℕ) (figures : ClassStats) → class < length pool.sizes →
+    figures ≡ record { size = slice_index pool.sizes class; made = made_in pool.blocks class; free = free_in pool.blocks class } →
+    figures ≡ class_in (account_read pool) class
+class-read pool class figures there is =
+    is
+    ∙ ap (λ (n : ℕ). record { size = slice_index pool.sizes class; made = n; free = free_in pool.blocks class }) (made-read pool class there)
+    ∙ ap (λ (n : ℕ). record { size = slice_index pool.sizes class; made = slice_index (account_read pool).made class; free = n }) (free-read pool class there)
 
 -- one number more
 range-more : (a n m : ℕ) → a + n ≡ m → range_with_len a (suc n) ≡ range_with_len a n ++ m ∷ []

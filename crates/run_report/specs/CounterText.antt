@@ -4,6 +4,8 @@ use Rattle.std.specs.Prelude.{ℕ, ◌-◌, ◌==◌, List, [], ◌++◌, length
 use Rattle.std.specs.List.{flat_map, range_with_len}
 use Rattle.fsw_base.specs.EventDesk.{Desk}
 use Rattle.fsw_base.specs.PoolAccounts.{Account, cost_of}
+use Rattle.fsw_base.specs.declared.config.PoolStats.{PoolStats}
+use Rattle.es_pool.specs.declared.blocks.ClassStats.{ClassStats}
 use Rattle.es_pool.specs.Pool.{PoolState, made_in, out_in}
 use Rattle.housekeeping.specs.declared.in_use.InUse.{InUse}
 use Rattle.housekeeping.specs.Counters.{Counts}
@@ -76,6 +78,23 @@ account_read pool = record {
   out = map (out_in pool.blocks) (range_with_len 0 (length pool.sizes));
   requests = pool.requests;
   errors = pool.errors;
+}
+
+-- what the line of a pool shows of its account
+abbrev pub figures_in : Account → PoolStats
+figures_in account = record {
+  size = account.bytes;
+  requests = account.requests;
+  errors = account.errors;
+  free = account.bytes - cost_of account.made account.sizes;
+}
+
+-- what the line of one of its block sizes shows, by the size's place
+abbrev pub class_in : Account → ℕ → ClassStats
+class_in account class = record {
+  size = slice_index account.sizes class;
+  made = slice_index account.made class;
+  free = slice_index account.made class - slice_index account.out class;
 }
 
 -- how the line of a pool begins: the bus's own, one of the applications by its number, or the

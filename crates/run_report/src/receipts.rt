@@ -59,8 +59,13 @@ fn put_application<K: Sink>(
     }
 }
 
-// Puts the line of one receipt.
-fn put_receipt<K: Sink>(sink: &mut SinkGuard<'_, K>, page: &mut Page, app: usize, receipt: &Receipt)
+/// Puts the line of one receipt of an application.
+pub fn put_receipt<K: Sink>(
+    sink: &mut SinkGuard<'_, K>,
+    page: &mut Page,
+    app: usize,
+    receipt: &Receipt,
+)
     ensures { Puts sink.old sink.new page.old page.new (receipt_text app receipt.now) }
 {
     put(sink, page, b"a");
