@@ -4,6 +4,7 @@ mod EmptyBags
 mod Histories
 mod LentBuffers
 mod Mains
+mod Meetings
 pub mod OthersCalls
 mod PermitTests
 mod Refusals

@@ -45,7 +45,7 @@ impl<'r> Model for Bus<'r> {
 #[derive(Drop)]
 pub struct BusMain {
     // The lock's main seat.
-    seat: Seat<Opening, NotedCall>,
+    pub(crate) seat: Seat<Opening, NotedCall>,
     // The budgets of the applications 1, 2, 3 and so on.
     budgets: Vec<Budget>,
     // How many pipes there may be.

@@ -83,6 +83,7 @@ mod calls;
 mod counters;
 mod events;
 mod leaving;
+mod meeting;
 mod permits;
 mod pipes;
 mod pools;

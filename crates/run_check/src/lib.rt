@@ -22,11 +22,11 @@
 //! ```
 #![tactic(auto)]
 
-mod laws;
 mod judgement;
+mod laws;
 
+pub use judgement::Judgement;
 pub use laws::{
     judged_reports_are_answered, next_calls_are_known, next_table_calls_are_known, places_go_on,
     receipts_are_merged, reports_tell_runs, table_places_go_on, wrong_lines_are_first,
 };
-pub use judgement::Judgement;

@@ -34,4 +34,4 @@ mod subs;
 mod words;
 
 pub use subs::Subs;
-pub use words::{SubNo, SubRow, Admission};
+pub use words::{Admission, SubNo, SubRow};

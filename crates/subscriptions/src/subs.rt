@@ -6,7 +6,7 @@ ghost use Rattle.subscriptions.specs.Subs.{Subscribed, LiveSubscription, live_at
 ghost use Rattle.subscriptions.specs.Inside.{held_at, recounted, with_slot, with_free};
 
 use crate::place::Place;
-use crate::words::{SubNo, SubRow, Admission};
+use crate::words::{Admission, SubNo, SubRow};
 use fsw_base::Scope;
 use ruled_out::{ruled_out, surely_some};
 use std::alloc::{AllocError, Global};

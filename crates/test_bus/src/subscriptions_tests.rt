@@ -3,7 +3,7 @@ ghost use Rattle.std.specs.Prelude.{◌≡◌, []};
 
 use fsw_base::Scope;
 use std::test::Fail;
-use subscriptions::{Subs, Admission};
+use subscriptions::{Admission, Subs};
 
 /// A subscription that lets one message wait admits a first one, and is over its limit once that
 /// one waits.

@@ -25,3 +25,7 @@ module _ {E : Type 0} where
   pub entries_of-beginning : (app : ℕ) (seen log : List (ℕ × E)) → IsPrefix seen log → entries_of app log ≡ [] → entries_of app seen ≡ []
   entries_of-beginning app seen log begins none =
       nothing_before (entries_of app seen) (entries_of app begins.0) (sym (entries_of-append app seen begins.0) ∙ (ap (entries_of app) begins.1 ∙ none))
+
+  -- a beginning of a history has a beginning of each application's entries
+  pub entries_of-prefix : (app : ℕ) (seen log : List (ℕ × E)) → IsPrefix seen log → IsPrefix (entries_of app seen) (entries_of app log)
+  entries_of-prefix app seen log begins = (entries_of app begins.0, sym (entries_of-append app seen begins.0) ∙ ap (entries_of app) begins.1)

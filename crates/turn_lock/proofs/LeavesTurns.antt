@@ -1,5 +1,6 @@
 -- The steps by which a turn is left keep the rule.
-use Rattle.std.proofs.Common.{◌≡◌, ◌≢◌, ◌⊎◌, ◌≤◌, ◌+◌, ◌%◌, ◌^◌, Bool, ℕ, List, [], ◌∷◌, ◌++◌, get_or, set, true, refl, sym, ap, ◌∙◌, subst, ⊎_elim, inl, inr, arith, Option, Some, length-set}
+use Rattle.std.proofs.Common.{◌≡◌, ◌≢◌, ◌⊎◌, ◌≤◌, ◌+◌, ◌%◌, ◌^◌, Bool, ℕ, List, [], ◌∷◌, ◌++◌, get_or, set, true, refl, sym, ap, ◌∙◌, subst, ⊎_elim, inl, inr, arith, All, Option, Some, length-set}
+use Rattle.std.proofs.lemmas.List.Elements.{All-nil}
 use mathlib.Core.Option.{some}
 use mathlib.Core.Option as home
 use mathlib.Core.List.{IsPrefix}
@@ -15,9 +16,13 @@ use Rattle.turn_lock.specs.Rule.{Fits, IsRingDue, IsHome, IsHomeOrOut, IsOutWith
 use Rattle.turn_lock.specs.Steps.{Grows, MayLeave, Passes, Hears, Rings}
 use Rattle.turn_lock.proofs.LockWords.{set_same, turn_set, turn_kept, bell_set, bell_kept, rung_once}
 use Rattle.turn_lock.proofs.Entries.{entries_of-append_other}
-use Rattle.turn_lock.proofs.Stages.{off, live_there, left_live, left_unserved, left_not_main}
+use Rattle.turn_lock.proofs.Stages.{off, live_there, live_not_main, left_live, left_unserved, left_not_main}
 use Rattle.turn_lock.proofs.ViewLists.{inside, each_set, differ_set, alone, main_set, value_set}
 use Rattle.turn_lock.proofs.Sleepers.{remembered_set, remembered_passed}
+
+-- an application is none of no ended ones
+none_apart : {A : Type 0} (app : ℕ) (ended : List (ℕ × A)) → ended ≡ [] → All (λ e. app ≢ e.0) ended
+none_apart app ended none = subst (All (λ e. app ≢ e.0)) (sym none) (All-nil (λ e. app ≢ e.0))
 
 some_one : {A : Type 0} {a b : A} → Some a ≡ Some b → a ≡ b
 some_one e = cc e
@@ -57,7 +62,7 @@ module _ {T F E : Type 0} (fixed : T → F) (history : T → List (ℕ × E)) (a
           words = length-set s.words 1 n ∙ h.words;
           bell = bell_set s.words n h.words ∙ rung_once (get_or s.words 1 0) h.rings h.bell;
           each = each_set (Fits opening h.log h.noted (h.rings + 1)) s.views id w
-              (λ j u other e. let g = h.each j u e in record { opening = g.opening; seen = g.seen; joined = g.joined; mine = g.mine; served = g.served; ended = g.ended; alive = g.alive; found = g.found; heard = λ k is. let less = g.heard k is in omega (arith, less) })
+              (λ j u other e. let g = h.each j u e in record { opening = g.opening; seen = g.seen; joined = g.joined; mine = g.mine; served = g.served; ended = g.ended; none = g.none; found = g.found; heard = λ k is. let less = g.heard k is in omega (arith, less) })
               record {
                 opening = λ _. f.opening (live_there v.stage live);
                 seen = f.seen;
@@ -65,7 +70,7 @@ module _ {T F E : Type 0} (fixed : T → F) (history : T → List (ℕ × E)) (a
                 mine = λ _. f.mine live;
                 served = λ c. absurd (off c);
                 ended = f.ended;
-                alive = λ _. f.alive live;
+                none = λ _. f.none (live_not_main v.stage live);
                 found = λ c. absurd (off c);
                 heard = λ k is. let less = f.heard k is in omega (arith, less);
               };
@@ -98,7 +103,7 @@ module _ {T F E : Type 0} (fixed : T → F) (history : T → List (ℕ × E)) (a
           words = h.words;
           bell = h.bell;
           each = each_set (Fits opening h.log h.noted h.rings) s.views id w (λ j u other e. h.each j u e)
-              record { opening = f.opening; seen = f.seen; joined = f.joined; mine = f.mine; served = f.served; ended = f.ended; alive = f.alive; found = f.found; heard = λ n is. let same = some_one is in omega (arith, same) };
+              record { opening = f.opening; seen = f.seen; joined = f.joined; mine = f.mine; served = f.served; ended = f.ended; none = f.none; found = f.found; heard = λ n is. let same = some_one is in omega (arith, same) };
           differ = differ_set s.views id w h.differ (λ j u other e. let d = h.differ id j v u (λ y. other (sym y)) at e in record { turns = d.turns; apps = d.apps; left = d.left; right = d.right; mains = d.mains });
           main = main_set h.log h.log s.views id v w at live live refl refl (λ _ _. refl) h.main;
           value = ⊎_elim
@@ -140,7 +145,7 @@ module _ {T F E : Type 0} (fixed : T → F) (history : T → List (ℕ × E)) (a
                 mine = λ c. others u.app (λ same. d.apps live c (sym same)) ∙ g.mine c;
                 served = λ c. absurd (idle j u other e c);
                 ended = λ k x i. others (get_or u.ended k x).0 (λ same. d.left live k x i (sym same)) ∙ g.ended k x i;
-                alive = g.alive;
+                none = g.none;
                 found = λ c. absurd (idle j u other e c);
                 heard = g.heard;
               })
@@ -150,8 +155,8 @@ module _ {T F E : Type 0} (fixed : T → F) (history : T → List (ℕ × E)) (a
                 joined = prefix_trans v.joined h.log log f.joined extends;
                 mine = λ _. refl;
                 served = λ c. absurd (left_unserved way c);
-                ended = λ k x i. others (get_or v.ended k x).0 (λ same. f.alive live k x i (sym same)) ∙ f.ended k x i;
-                alive = λ _. f.alive live;
+                ended = λ k x i. others (get_or v.ended k x).0 (λ same. none_apart v.app v.ended (f.none (live_not_main v.stage live)) k x i (sym same)) ∙ f.ended k x i;
+                none = λ _. f.none (live_not_main v.stage live);
                 found = λ c. absurd (left_unserved way c);
                 heard = still_heard way h.rings v.heard f.heard;
               };

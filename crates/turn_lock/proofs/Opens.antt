@@ -28,9 +28,9 @@ module _ {T F E : Type 0} (fixed : T → F) (history : T → List (ℕ × E)) (a
         rings = 0;
         words = refl;
         bell = refl;
-        each = each_one (Fits (fixed x) log (awaited x) 0) main record { found = λ c. absurd (off c); heard = λ n is. absurd (cc is); opening = λ _. refl; seen = prefix_self log; joined = prefix_self log; mine = λ c. absurd (off c); served = λ c. absurd (off c); ended = All-nil (λ e. entries_of e.0 log ≡ e.1); alive = λ c. absurd (off c) };
+        each = each_one (Fits (fixed x) log (awaited x) 0) main record { found = λ c. absurd (off c); heard = λ n is. absurd (cc is); opening = λ _. refl; seen = prefix_self log; joined = prefix_self log; mine = λ c. absurd (off c); served = λ c. absurd (off c); ended = All-nil (λ e. entries_of e.0 log ≡ e.1); none = λ c. absurd (c refl) };
         differ = one_differs main;
-        main = each_one (λ u. is_main u.stage ≡ true → Governs log (main ∷ []) u) main (λ _. record { count = refl; others = λ _ _. refl; all = each_one (IsAmong []) main record { live = λ c. absurd (off c); ended = λ k e i. absurd (omega (arith, i)) } });
+        main = each_one (λ u. is_main u.stage ≡ true → Governs log (main ∷ []) u) main (λ _. record { others = λ _ _. refl; all = each_one (IsAmong []) main record { live = λ c. absurd (off c); ended = λ k e i. absurd (omega (arith, i)) } });
         value = inl (refl, (x, refl, empty, refl, each_one (λ u. is_served u.stage ≢ true) main off, refl));
         sleepers = each_one (λ u. is_away u.stage ≡ true → u.heard ≡ Some 0 → (awaited x ≡ true) ⊎ IsRingDue (main ∷ [])) main (λ c _. absurd (off c));
       }

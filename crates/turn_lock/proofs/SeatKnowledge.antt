@@ -4,8 +4,8 @@ use Rattle.std.proofs.lemmas.List.Elements.{All-head}
 use Rattle.turn_lock.specs.declared.view.View.{View}
 use Rattle.turn_lock.specs.declared.view.Stage.{Stage}
 use Rattle.turn_lock.specs.declared.view.Stage.TheVariants.{Main, Away, Has, Owes, Spent}
-use Rattle.turn_lock.specs.Views.{is_main}
-use Rattle.turn_lock.specs.Seats.{Known, first_view, AddsOwn}
+use Rattle.turn_lock.specs.Views.{is_main, joined_place, ended_place, first_ended}
+use Rattle.turn_lock.specs.Seats.{Known, SeatView, first_view, view_of, again_view, AddsOwn}
 use Rattle.turn_lock.specs.Steps.{Grows}
 use Rattle.turn_lock.specs.Inside.{known, is_idle}
 use Rattle.turn_lock.proofs.Stages.{off}
@@ -52,3 +52,22 @@ module _ {F E : Type 0} where
     is = is_log ∙ (own.is ∙ (ap (λ (x : Known F E). x.seen ++ own.more) (sym is) ∙ ap (λ (x : View F E). x.seen ++ own.more) (sym same)));
     others = λ app apart. own.others app (λ e. apart (e ∙ (ap (λ (x : Known F E). x.app) (sym is) ∙ ap (λ (x : View F E). x.app) (sym same))));
   }
+
+  -- an ended seat that came back knows what it knew, and the fixed part by the main seat
+  pub resumed : (main seat : SeatView F E) (v w glued met back : View F E) → known v ≡ view_of main → known w ≡ view_of seat → glued ≡ joined_place v w → met ≡ record glued { seen = met.seen } → back ≡ ended_place met
+      → (view_of main).ended ≡ [] → known back ≡ again_view (view_of main) (view_of seat)
+  resumed main seat v w glued met back is_main_seat is_seat joins sees again none =
+      let fixed : met.fixed ≡ (view_of main).fixed = ap (λ (x : View F E). x.fixed) sees ∙ (ap (λ (x : View F E). x.fixed) joins ∙ ap (λ (k : Known F E). k.fixed) is_main_seat) in
+      let joined : met.joined ≡ (view_of seat).seen = ap (λ (x : View F E). x.joined) sees ∙ (ap (λ (x : View F E). x.joined) joins ∙ ap (λ (k : Known F E). k.seen) is_seat) in
+      let before : v.ended ≡ [] = ap (λ (k : Known F E). k.ended) is_main_seat ∙ none in
+      let ended : met.ended ≡ ((view_of seat).app, (view_of seat).mine) ∷ [] =
+      ap (λ (x : View F E). x.ended) sees ∙ (ap (λ (x : View F E). x.ended) joins ∙ (ap (λ l. l ++ (w.app, w.mine) ∷ []) before ∙ ap (λ (k : Known F E). (k.app, k.mine) ∷ []) is_seat)) in
+      ap known again ∙ (λ i. record {
+        fixed = fixed i;
+        main = false;
+        app = (first_ended (ended i)).0;
+        seen = joined i;
+        mine = (first_ended (ended i)).1;
+        apps = [];
+        ended = [];
+      })

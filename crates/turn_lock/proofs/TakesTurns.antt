@@ -15,7 +15,7 @@ use Rattle.turn_lock.specs.Views.{entries_of, is_live, is_owing, served_place}
 use Rattle.turn_lock.specs.Rule.{Fits, IsHome, IsOutWithOne, IsHomeOrOut, Kept}
 use Rattle.turn_lock.specs.Steps.{Seizes}
 use Rattle.turn_lock.proofs.LockWords.{set_same, turn_set, bell_kept}
-use Rattle.turn_lock.proofs.Stages.{off, live_there}
+use Rattle.turn_lock.proofs.Stages.{off, live_there, live_not_main}
 use Rattle.turn_lock.proofs.ViewLists.{inside, each_set, differ_set, main_set}
 use Rattle.turn_lock.proofs.Sleepers.{remembered_set}
 
@@ -55,7 +55,7 @@ module _ {T F E : Type 0} (fixed : T → F) (history : T → List (ℕ × E)) (a
         words = length-set s.words 0 now ∙ h.words;
         bell = bell_kept s.words now ∙ h.bell;
         each = each_set (Fits opening h.log h.noted h.rings) s.views id w (λ j u other e. h.each j u e)
-            record { found = λ _. o.5; heard = λ n is. absurd (cc is); opening = λ _. f.opening (live_there v.stage live); seen = subst (λ (l : List (ℕ × E)). IsPrefix (history x) l) o.2 (prefix_self (history x)); joined = f.joined; mine = λ _. f.mine live; served = λ _. o.2; ended = f.ended; alive = λ _. f.alive live };
+            record { found = λ _. o.5; heard = λ n is. absurd (cc is); opening = λ _. f.opening (live_there v.stage live); seen = subst (λ (l : List (ℕ × E)). IsPrefix (history x) l) o.2 (prefix_self (history x)); joined = f.joined; mine = λ _. f.mine live; served = λ _. o.2; ended = f.ended; none = λ _. f.none (live_not_main v.stage live) };
         differ = differ_set s.views id w h.differ (λ j u other e. let d = h.differ id j v u (λ y. other (sym y)) at e in record { turns = λ _ c. o.4 j u e c; apps = λ _. d.apps live; left = λ _. d.left live; right = d.right; mains = λ c _. absurd (off c) });
         main = main_set h.log h.log s.views id v w at live refl refl refl (λ _ _. refl) h.main;
         value = inr (subst (λ (n : ℕ). n ≢ 0) (sym (turn_set s.words now h.words)) taken, (id, w, set_here s.views id w (inside s.views id v at), refl));

@@ -85,7 +85,6 @@ module _ {F E : Type 0} where
   main_set log now views id v w at live live' app ended others old =
       each_set (λ u. is_main u.stage ≡ true → Governs now (set views id w) u) views id w
       (λ j u other e is. let r = old j u e is in let mine = r.all id v at in record {
-        count = length-set views id w ∙ r.count;
         others = λ a out. others a (λ same. out (subst (Contains u.apps) (sym same) (mine.live live))) ∙ r.others a out;
         all = each_set (IsAmong u.apps) views id w (λ i x _ e'. r.all i x e')
             record { live = λ _. subst (Contains u.apps) (sym app) (mine.live live); ended = subst (All (λ e'. Contains u.apps e'.0)) (sym ended) mine.ended };

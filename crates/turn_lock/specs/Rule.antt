@@ -19,7 +19,7 @@ module _ {F E : Type 0} where
     pub mine : is_live v.stage ≡ true → entries_of v.app log ≡ v.mine
     pub served : is_served v.stage ≡ true → v.seen ≡ log
     pub ended : All (λ e. entries_of e.0 log ≡ e.1) v.ended
-    pub alive : is_live v.stage ≡ true → All (λ e. v.app ≢ e.0) v.ended
+    pub none : is_main v.stage ≢ true → v.ended ≡ []
     pub found : is_served v.stage ≡ true → v.noted ≡ noted
     pub heard : (n : ℕ) → v.heard ≡ Some n → n ≤ rings
 
@@ -46,10 +46,9 @@ module _ {F E : Type 0} where
     pub live : is_live v.stage ≡ true → Contains apps v.app
     pub ended : All (λ e. Contains apps e.0) v.ended
 
-  -- what the rule says of the main seat: it has split off all other seats, and no entry is of
-  -- another application
+  -- what the rule says of the main seat: each other seat is of an application that it has split
+  -- off, and so is each entry
   pub record Governs (log : List (ℕ × E)) (views : List (View F E)) (main : View F E) : Type 0 where
-    pub count : length views ≡ length main.apps + 1
     pub others : (app : ℕ) → ¬ (Contains main.apps app) → entries_of app log ≡ []
     pub all : Each (IsAmong main.apps) views
 

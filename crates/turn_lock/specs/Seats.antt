@@ -81,6 +81,19 @@ module _ {F E : Type 0} where
   abbrev pub left_view : Known F E → List (ℕ × E) → Known F E
   left_view v log = record v { seen = log; mine = entries_of v.app log }
 
+  -- the seat again, with the main seat's fixed part
+  abbrev pub again_view : Known F E → Known F E → Known F E
+  again_view main v =
+      record {
+        fixed = main.fixed;
+        main = false;
+        app = v.app;
+        seen = v.seen;
+        mine = v.mine;
+        apps = [];
+        ended = [];
+      }
+
   -- a seat that knows nothing
   abbrev pub blank_view : Known F E
   blank_view =

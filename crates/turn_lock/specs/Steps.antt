@@ -50,12 +50,14 @@ module _ {T F E : Type 0} where
   Rings before now = now ≡ (rung_place before.0, before.1)
 
   -- of what main has seen and what the ended seat had seen one begins the other, and main keeps the
-  -- longer, which has no entries of applications that main hasn't split off
+  -- longer, which has no entries of applications that main hasn't split off, and of each that ended
+  -- none but its own
   abbrev pub Meets : Me (Option T) (View F E) → Me (Option T) (View F E) → Type 0
   Meets before now =
       (now ≡ (record before.0 { seen = now.0.seen }, before.1)) ×
       KeepsLonger before.0.seen before.0.joined now.0.seen
       × ((app : ℕ) → ¬ (Contains before.0.apps app) → entries_of app now.0.seen ≡ [])
+      × All (λ e. IsPrefix (entries_of e.0 now.0.seen) e.1) before.0.ended
 
 -- a place in the table stays the one that it was
 pub record Stays {S V : Type 0} (before now : places.Seat S V) : Type 0 where

@@ -70,6 +70,11 @@ heard_by AsFound heard = None
 heard_by ToSleep heard = heard
 heard_by ToRing heard = None
 
+-- the first of the seats that ended, with its entries
+abbrev pub first_ended : {E : Type 0} → List (ℕ × List (ℕ × E)) → ℕ × List (ℕ × E)
+first_ended [] = (0, [])
+first_ended (e ∷ es) = e
+
 module _ {F E : Type 0} where
   -- the main seat of a new lock, whose value has this fixed part and this history
   abbrev pub main_place : F → List (ℕ × E) → View F E
@@ -133,6 +138,26 @@ module _ {F E : Type 0} where
   -- the main seat, which takes in an ended seat's entries, and what that one had seen
   abbrev pub joined_place : View F E → View F E → View F E
   joined_place main v = record main { ended = main.ended ++ (v.app, v.mine) ∷ []; joined = v.seen }
+
+  -- the main seat, of which the ended seats are seats again
+  abbrev pub without_ended : View F E → View F E
+  without_ended main = record main { ended = [] }
+
+  -- the seat that ended, as it was: it had seen what the main seat noted of it
+  abbrev pub ended_place : View F E → View F E
+  ended_place main =
+      record {
+        fixed = main.fixed;
+        seen = main.joined;
+        app = (first_ended main.ended).0;
+        mine = (first_ended main.ended).1;
+        stage = Away;
+        noted = false;
+        heard = None;
+        apps = [];
+        ended = [];
+        joined = [];
+      }
 
   -- what is left of an ended seat
   abbrev pub spent_place : View F E

@@ -2,13 +2,14 @@
 ghost use Rattle.std.specs.Prelude.{◌≡◌, ℕ, ◌<◌, List, [], ◌∷◌, length, Contains};
 ghost use Rattle.std.specs.Prelude.{IfOk, IfSome, IfNone, Some, None};
 ghost use Rattle.turn_lock.specs.Views.{main_place, seat_place, with_seat, joined_place, AreAllJoined};
+ghost use Rattle.turn_lock.specs.Views.{without_ended, ended_place};
 ghost use Rattle.turn_lock.specs.Steps.{Seizes, IsServed, MayLeave, Passes, Rings, Meets, Grows};
 ghost use Rattle.turn_lock.specs.Steps.{Stays, Closes};
 ghost use Rattle.turn_lock.specs.Inside.{IsOf};
 ghost use Rattle.turn_lock.specs.declared.view.Stage.TheVariants.{Main, Away, Has, Owes};
 
 use crate::historied::Historied;
-use crate::rule::{Cut, Glue, Hear, Meet, NamedApp, Pass, Ring, Seize, TurnEnd, Turns};
+use crate::rule::{Cut, Glue, Hear, Meet, NamedApp, Pass, Resume, Ring, Seize, TurnEnd, Turns};
 use crate::view::View;
 use atomic_table::{Seat, Table};
 use std::alloc::{AllocError, Global};
@@ -337,6 +338,19 @@ impl<T: Historied> Board<T> {
         ensures met { Meets main.old.me main.new.me }
     {
         self.table.shared.load::<Meet>(main, TURN);
+    }
+
+    /// Splits the ended place off the main one again, as it was.
+    pub(crate) fn resume(&self, main: &mut Place<T>) -> Place<T>
+        requires table { main.old.table_id ≡ self.now.table.shared.table_id }
+        requires main { main.old.me.0.stage ≡ Main }
+        requires one { length main.old.me.0.ended ≡ 1 }
+        ensures place { Stays main.old main.new }
+        ensures main { main.new.me ≡ (without_ended main.old.me.0, main.old.me.1) }
+        ensures new { (result.table_id ≡ main.old.table_id)
+            × (result.me ≡ (ended_place main.old.me.0, [])) }
+    {
+        self.table.shared.split_seat::<Resume>(main)
     }
 
     /// Ends the table, and answers the value.

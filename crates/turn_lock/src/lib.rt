@@ -77,7 +77,9 @@
 //! seat's own entries, in order. `leave` takes a history that is the one found with entries of the
 //! seat's application behind it. `join` keeps the longer of two histories, in which only
 //! applications that were split off have entries. `close` gives a history that has of each
-//! application just its seat's entries, in order, and no others (`specs/Rule.antt`).
+//! application just its seat's entries, in order, and no others (`specs/Rule.antt`). `meet` has the
+//! main seat see what a seat has seen; of the seat's application there is nothing there but the
+//! seat's own entries, so who meets all seats knows which have made none.
 //!
 //! A seat that left its turn to sleep begins no turn before it slept or said that it stays awake,
 //! and a turn that it begins awake can't be left to sleep again. It sleeps at the count of rings

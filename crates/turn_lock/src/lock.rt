@@ -3,7 +3,7 @@ ghost use Rattle.std.specs.Prelude.{◌≡◌, ◌||◌, ℕ, ◌≤◌, ◌<◌
 ghost use Rattle.std.specs.Prelude.{Contains, IfOk, Some, None};
 ghost use mathlib.Core.List.{IsPrefix};
 ghost use Rattle.turn_lock.specs.Views.{entries_of};
-ghost use Rattle.turn_lock.specs.Seats.{main_view, seat_view, with_app, entered_view, left_view};
+ghost use Rattle.turn_lock.specs.Seats.{main_view, seat_view, with_app, entered_view, left_view, again_view};
 ghost use Rattle.turn_lock.specs.Seats.{view_of, IsOut, IsMain, IsIn, IsReady, AddsOwn};
 ghost use Rattle.turn_lock.specs.Seats.{KeepsLonger, AreAllJoined};
 ghost use Rattle.turn_lock.specs.Inside.{known};
@@ -254,6 +254,37 @@ impl<T: Historied> TurnLock<T> {
         self.board.glue(&mut place, seat.into_place());
         self.board.meet(&mut place);
         *main = Seat::of(place);
+    }
+
+    /// Has the main seat, to which no seat was joined, see what a seat has seen. It keeps the longer
+    /// of the two histories, which has no entries but those of applications that were split off,
+    /// and of the seat's application none but those that the seat made. The seat knows what it
+    /// knew, and the fixed part by the main seat. It has no sleep behind it that it skipped.
+    pub fn meet(&self, main: &mut Seat<T::Fixed, T::Event>, seat: &mut Seat<T::Fixed, T::Event>)
+        requires main { IsMain main.old self.now.name }
+        requires none { (view_of main.old).ended ≡ [] }
+        requires seat { IsReady seat.old self.now.name }
+        requires awake { seat.old.kept_awake ≡ false }
+        ensures main { IsMain main.new self.now.name }
+        ensures seen { KeepsLonger (view_of main.old).seen (view_of seat.old).seen
+            (view_of main.new).seen }
+        ensures same { view_of main.new ≡
+            record (view_of main.old) { seen = (view_of main.new).seen } }
+        ensures others { (app : ℕ) → ¬ (Contains (view_of main.new).apps app)
+            → entries_of app (view_of main.new).seen ≡ [] }
+        ensures own { IsPrefix
+            (entries_of (view_of seat.old).app (view_of main.new).seen)
+            (view_of seat.old).mine }
+        ensures seat { IsReady seat.new self.now.name }
+        ensures stays { view_of seat.new ≡ again_view (view_of main.old) (view_of seat.old) }
+        ensures kept_awake { seat.new.kept_awake ≡ false }
+    {
+        let mut home = main.take_place();
+        let other = seat.take_place();
+        self.board.glue(&mut home, other);
+        self.board.meet(&mut home);
+        *seat = Seat::of(self.board.resume(&mut home));
+        *main = Seat::of(home);
     }
 
     /// Ends the lock, whose seats have all been joined, and answers its value. The value has the

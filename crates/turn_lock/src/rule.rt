@@ -117,6 +117,17 @@ impl<F, E> Join<View<F, E>> for Glue {
     ghost spent = { spent_place };
 }
 
+/// The ended seat that the main seat took in last comes back, as it was.
+pub(crate) struct Resume;
+
+impl<F, E> Split<View<F, E>> for Resume {
+    ghost use Rattle.turn_lock.specs.Views.{without_ended, ended_place};
+
+    ghost left = { without_ended };
+
+    ghost right = { ended_place };
+}
+
 /// The main seat keeps the longer of what it and the ended seat had seen.
 pub(crate) struct Meet;
 
