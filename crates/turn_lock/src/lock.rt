@@ -256,9 +256,9 @@ impl<T: Historied> TurnLock<T> {
         *main = Seat::of(place);
     }
 
-    /// Has the main seat, to which no seat was joined, see what a seat has seen. It keeps the longer
-    /// of the two histories, which has no entries but those of applications that were split off,
-    /// and of the seat's application none but those that the seat made. The seat knows what it
+    /// Has the main seat, to which no seat was joined, see what a seat has seen. It keeps the
+    /// longer of the two histories. That one has entries of applications that were split off
+    /// alone, and of the seat's application only those that the seat made. The seat knows what it
     /// knew, and the fixed part by the main seat. It has no sleep behind it that it skipped.
     pub fn meet(&self, main: &mut Seat<T::Fixed, T::Event>, seat: &mut Seat<T::Fixed, T::Event>)
         requires main { IsMain main.old self.now.name }
