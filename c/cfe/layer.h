@@ -20,7 +20,8 @@ enum {
     MOST_TABLES = 256,
     MOST_HANDLES = 1024,
     MOST_FILTERS = CFE_PLATFORM_EVS_MAX_EVENT_FILTERS,
-    BLOCK_SIZES = CFE_MISSION_ES_POOL_MAX_BUCKETS
+    BLOCK_SIZES = CFE_MISSION_ES_POOL_MAX_BUCKETS,
+    BUS_EVENTS = 6 /* kinds of events that the bus itself logs, numbered from 1 */
 };
 
 struct app {
@@ -91,6 +92,8 @@ struct layer {
     struct fsw_core core;
     struct fsw_limits limits;
     struct fsw_config config;
+    uint32_t events_seen; /* events that the core had logged when the last of the bus was told */
+    uint16_t bus_events[BUS_EVENTS + 1]; /* how many of each kind there were, at most 65535 */
     uint32_t apps;
     struct app app[MOST_APPS];
     struct task task[MOST_TASKS];
@@ -156,6 +159,20 @@ static inline CFE_Status_t fsw_status(uint32_t status, CFE_Status_t otherwise)
 
 /* Wakes those who sleep on a pipe that has a message, after a send. */
 void fsw_wake(const struct fsw_sent *sent);
+
+/*
+ * Ends a call of an application's that the bus may have logged events of: these are sent and
+ * printed where the configuration asks.
+ */
+void fsw_leave_telling(struct app *app);
+
+static inline void fsw_leave_bus(struct app *app)
+{
+    if (fsw_layer.config.sends_events || fsw_layer.config.prints_events)
+        fsw_leave_telling(app);
+    else
+        fsw_leave();
+}
 
 /* Lets go what an application still has, before its end in the core; and its pipes, behind it. */
 void fsw_end_buffers(struct app *app);

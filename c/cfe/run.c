@@ -256,6 +256,8 @@ static bool open_layer(const struct fsw_limits *limits)
     memset(layer->pool, 0, sizeof layer->pool);
     memset(layer->table, 0, sizeof layer->table);
     memset(layer->handle, 0, sizeof layer->handle);
+    memset(layer->bus_events, 0, sizeof layer->bus_events);
+    layer->events_seen = 0;
     layer->asleep = NULL;
     layer->limits = *limits;
     layer->buffer = calloc((size_t)limits->apps * limits->buffers + 1, sizeof *layer->buffer);
@@ -265,6 +267,8 @@ static bool open_layer(const struct fsw_limits *limits)
         free(layer->buffer);
         return false;
     }
+    /* A full log drops its oldest line, so that the bus's newest events are there to be told. */
+    fsw_set_log_mode(&layer->core, 1, 0);
     pthread_condattr_t clock;
     pthread_condattr_init(&clock);
     pthread_condattr_setclock(&clock, CLOCK_MONOTONIC);

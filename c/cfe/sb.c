@@ -125,7 +125,7 @@ static CFE_Status_t subscribe(CFE_SB_MsgId_t MsgId, CFE_SB_PipeId_t PipeId, uint
     /* An id of over 16 bits is as bad as 0. */
     uint16_t id = MsgId > UINT16_MAX ? 0 : (uint16_t)MsgId;
     uint32_t status = fsw_subscribe(&fsw_layer.core, app->number, id, PipeId, limit, scope);
-    fsw_leave();
+    fsw_leave_bus(app);
     return fsw_status(status, CFE_SB_BAD_ARGUMENT);
 }
 
@@ -153,7 +153,7 @@ CFE_Status_t CFE_SB_Unsubscribe(CFE_SB_MsgId_t MsgId, CFE_SB_PipeId_t PipeId)
         return CFE_SB_BAD_ARGUMENT;
     uint16_t id = MsgId > UINT16_MAX ? 0 : (uint16_t)MsgId;
     uint32_t status = fsw_unsubscribe(&fsw_layer.core, app->number, id, PipeId);
-    fsw_leave();
+    fsw_leave_bus(app);
     return fsw_status(status, CFE_SB_BAD_ARGUMENT);
 }
 
@@ -200,7 +200,7 @@ CFE_Status_t CFE_SB_TransmitMsg(const CFE_MSG_Message_t *MsgPtr, bool IncrementS
                                    is_counted(MsgPtr, IncrementSequenceCount), &sent);
     if (status == FSW_SUCCESS)
         fsw_wake(&sent);
-    fsw_leave();
+    fsw_leave_bus(app);
     return fsw_status(status, CFE_SB_BAD_ARGUMENT);
 }
 
@@ -316,7 +316,7 @@ CFE_Status_t CFE_SB_TransmitBuffer(CFE_SB_Buffer_t *BufPtr, bool IncrementSequen
         fsw_transmit_buffer(&fsw_layer.core, app->number, buffer ? buffer : &none, counts, &sent);
     if (status == FSW_SUCCESS)
         fsw_wake(&sent);
-    fsw_leave();
+    fsw_leave_bus(app);
     return fsw_status(status, CFE_SB_BAD_ARGUMENT);
 }
 
