@@ -164,10 +164,8 @@ CFE_Status_t CFE_SB_UnsubscribeLocal(CFE_SB_MsgId_t MsgId, CFE_SB_PipeId_t PipeI
 
 /* ---- Sends ---- */
 
-void fsw_wake(const struct fsw_sent *sent)
+void fsw_wake_sleepers(void)
 {
-    if (sent->reached == 0)
-        return;
     for (struct pipe *pipe = fsw_layer.asleep; pipe; pipe = pipe->next_asleep) {
         uint32_t waiting = 0;
         fsw_waiting(&fsw_layer.core, pipe->number, &waiting);
@@ -227,12 +225,12 @@ static void wake_up(struct pipe *pipe)
 /* Whether a wait goes on: not if the task or all applications were asked to end. */
 static bool is_patient(void)
 {
-    return !fsw_layer.is_stopping && !fsw_self->is_ending && !fsw_self->app->is_ending;
+    return !fsw_layer.is_stopping && !fsw_self->is_ending;
 }
 
 /* Waits on a live pipe of the caller's. A pipe that is deleted meanwhile can't be read. */
-static uint32_t wait_for_message(struct app *app, uint32_t number, int32 TimeOut,
-                                 struct fsw_message *message)
+FSW_SELDOM static uint32_t wait_for_message(struct app *app, uint32_t number, int32 TimeOut,
+                                            struct fsw_message *message)
 {
     struct pipe *pipe = pipe_numbered(number);
     bool is_forever = TimeOut == CFE_SB_PEND_FOREVER;
@@ -254,7 +252,7 @@ static uint32_t wait_for_message(struct app *app, uint32_t number, int32 TimeOut
 
 CFE_Status_t CFE_SB_ReceiveBuffer(CFE_SB_Buffer_t **BufPtr, CFE_SB_PipeId_t PipeId, int32 TimeOut)
 {
-    struct fsw_message message = {NULL, 0, 0};
+    struct fsw_message message;
     if (!BufPtr)
         return CFE_SB_BAD_ARGUMENT;
     *BufPtr = NULL;
@@ -267,10 +265,11 @@ CFE_Status_t CFE_SB_ReceiveBuffer(CFE_SB_Buffer_t **BufPtr, CFE_SB_PipeId_t Pipe
     if (status == FSW_SB_NO_MESSAGE && TimeOut != CFE_SB_POLL)
         status = wait_for_message(app, PipeId, TimeOut, &message);
     fsw_leave();
+    if (status != FSW_SUCCESS)
+        return fsw_status(status, CFE_SB_BAD_ARGUMENT);
     /* cFE's type lets an application write there; it is not to. */
-    if (status == FSW_SUCCESS)
-        *BufPtr = (CFE_SB_Buffer_t *)(uintptr_t)message.at;
-    return fsw_status(status, CFE_SB_BAD_ARGUMENT);
+    *BufPtr = (CFE_SB_Buffer_t *)(uintptr_t)message.at;
+    return CFE_SUCCESS;
 }
 
 /* ---- Buffers ---- */
