@@ -6,10 +6,11 @@
                                             its bytes are these values by Python's struct: HHI is two uint16 and a uint32, placed
                                             as C on this machine places them (< or > before: without gaps, lowest or highest first);
                                             0I at the end fills up to a multiple of 4, as C fills a struct
+    table_file.py object T.o [FILE]         a file of a table's source (CFE_TBL_FILEDEF), compiled by `gcc -c`
     table_file.py show FILE                 what the headers say
     table_file.py bytes FILE                the table's bytes, to the standard output
 
-A C struct gives its bytes by `gcc -c T.c && objcopy -O binary -j .data T.o T.bin`. The status is 1 where a file is none.
+The status is 1 where a file is none.
 """
 import argparse
 import struct
@@ -20,21 +21,25 @@ from pathlib import Path
 HEADERS = struct.Struct('>4s7I32s3I40s')
 CONTENT, SUBTYPE, HEADER_BYTES = b'cFE1', 8, 64
 MOST_NAME, MOST_TEXT = 39, 31
+# Of an object file: the kinds of sections that have its symbols, and zeros; a symbol; CFE_TBL_FileDef_t of cfe_tbl_filedef.h.
+SYMBOLS, ZEROS = 2, 8
+SYMBOL = struct.Struct('<IBBHQQ')
+FILE_DEF = struct.Struct('<64s40s32s20sI')
 NAMES = ('content', 'subtype', 'length', 'spacecraft', 'processor', 'application', 'seconds', 'subseconds', 'description',
          'reserved', 'offset', 'bytes', 'table')
 
 
-def made(name, table, given):
+def made(name, table, text='', offset=0, spacecraft=0, processor=0, seconds=0):
     """The file of a table, or a refusal."""
-    name, text = name.encode('ascii'), given.description.encode()
+    name, text = name.encode('ascii'), text.encode()
     if not 1 <= len(name) <= MOST_NAME or not all(33 <= byte <= 126 for byte in name):
         sys.exit(f'table_file: a name has 1 to {MOST_NAME} visible characters')
     if len(text) > MOST_TEXT:
         sys.exit(f'table_file: a description has at most {MOST_TEXT} bytes')
     if not table:
         sys.exit('table_file: there are no bytes')
-    return HEADERS.pack(CONTENT, SUBTYPE, HEADER_BYTES, given.spacecraft, given.processor, 0, given.seconds, 0, text, 0,
-                        given.offset, len(table), name) + table
+    return HEADERS.pack(CONTENT, SUBTYPE, HEADER_BYTES, spacecraft, processor, 0, seconds, 0, text, 0, offset, len(table),
+                        name) + table
 
 
 def packed(form, values):
@@ -45,6 +50,37 @@ def packed(form, values):
     kinds = {bytes: str.encode, float: float, bool: lambda text: text not in ('0', 'false')}
     return struct.pack(form, *(kinds.get(type(kind), lambda text: int(text, 0))(text)
                                for kind, text in zip(letters, values)))
+
+
+def variable(data, name):
+    """The bytes of a variable of an object file (ELF of 64 bits, the lowest byte first)."""
+    if data[:6] != b'\x7fELF\x02\x01':
+        sys.exit('table_file: no object file of 64 bits')
+    first, = struct.unpack_from('<Q', data, 0x28)
+    size, count = struct.unpack_from('<HH', data, 0x3A)
+    # A section: its name, kind, flags, address, place in the file, bytes, and the section that it refers to.
+    sections = [struct.unpack_from('<IIQQQQI', data, first + i * size) for i in range(count)]
+    for _, _, _, _, at, length, names in (it for it in sections if it[1] == SYMBOLS):
+        for symbol in range(at, at + length, SYMBOL.size):
+            text, _, _, home, offset, length_of_it = SYMBOL.unpack_from(data, symbol)
+            start = sections[names][4] + text
+            if data[start:data.index(b'\0', start)] != name or not 0 < home < count:
+                continue
+            if sections[home][1] == ZEROS:
+                return bytes(length_of_it)
+            return data[sections[home][4] + offset:][:length_of_it]
+    sys.exit(f'table_file: the object has no {name.decode()}')
+
+
+def of_object(path):
+    """What a table's source says of it: its name, bytes, description, and the name of its file."""
+    data = Path(path).read_bytes()
+    *texts, size = FILE_DEF.unpack(variable(data, b'CFE_TBL_FileDef'))
+    variable_name, name, text, file = (it.split(b'\0')[0] for it in texts)
+    table = variable(data, variable_name)
+    if len(table) != size:
+        sys.exit(f'table_file: {variable_name.decode()} has {len(table)} bytes, not {size}')
+    return name.decode(), table, text.decode(), file.decode()
 
 
 def parts_of(path):
@@ -79,13 +115,21 @@ def main():
         make.add_argument('--' + name, type=int, default=0)
     for way in ('show', 'bytes'):
         ways.add_parser(way).add_argument('file')
+    compiled = ways.add_parser('object')
+    compiled.add_argument('object')
+    compiled.add_argument('file', nargs='?')
     given = words.parse_args()
     if given.way == 'make':
         if (given.source is None) == (given.values is None):
             sys.exit('table_file: the bytes come from a file, or from --as')
         table = packed(given.values[0], given.values[1:]) if given.values else (
             sys.stdin.buffer.read() if given.source == '-' else Path(given.source).read_bytes())
-        Path(given.file).write_bytes(made(given.name, table, given))
+        Path(given.file).write_bytes(made(given.name, table, given.description, given.offset, given.spacecraft, given.processor,
+                                          given.seconds))
+        return
+    if given.way == 'object':
+        name, table, text, file = of_object(given.object)
+        Path(given.file or file).write_bytes(made(name, table, text))
         return
     fields, table = parts_of(given.file)
     if given.way == 'bytes':

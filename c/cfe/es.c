@@ -67,7 +67,9 @@ CFE_Status_t CFE_ES_WriteToSysLog(const char *SpecStringPtr, ...)
     va_start(arguments, SpecStringPtr);
     int length = vsnprintf(text, sizeof text, SpecStringPtr, arguments);
     va_end(arguments);
-    fputs(text, stderr);
+    /* Applications leave the line's end to cFE, or write it. */
+    size_t shown = strlen(text);
+    fprintf(stderr, "%s%s", text, shown > 0 && text[shown - 1] == '\n' ? "" : "\n");
     return length < (int)sizeof text ? CFE_SUCCESS : CFE_ES_ERR_SYS_LOG_TRUNCATED;
 }
 

@@ -171,8 +171,27 @@ static void check_secondary_headers(void)
     CHECK(sizeof(CFE_EVS_LongEventTlm_t) == 172);
 }
 
+static void check_strings(void)
+{
+    char text[5], field[6];
+    CHECK(CFE_SB_MessageStringSet(field, "four", sizeof field, 5) == 4);
+    CHECK(memcmp(field, "four\0\0", 6) == 0);
+    CHECK(CFE_SB_MessageStringSet(field, "longer text", sizeof field, 12) == 6);
+    CHECK(memcmp(field, "longer", 6) == 0);
+    CHECK(CFE_SB_MessageStringGet(text, field, NULL, sizeof text, sizeof field) == 4);
+    CHECK(strcmp(text, "long") == 0);
+    CHECK(CFE_SB_MessageStringGet(text, field, NULL, sizeof text, 3) == 3);
+    CHECK(strcmp(text, "lon") == 0);
+    CHECK(CFE_SB_MessageStringGet(text, "", "default", sizeof text, 6) == 4);
+    CHECK(strcmp(text, "defa") == 0);
+    CHECK(CFE_SB_MessageStringGet(text, NULL, NULL, sizeof text, 6) == 0 && !text[0]);
+    CHECK_STATUS(CFE_SB_MessageStringGet(text, field, NULL, 0, 6), CFE_SB_BAD_ARGUMENT);
+    CHECK_STATUS(CFE_SB_MessageStringSet(field, NULL, 6, 6), CFE_SB_BAD_ARGUMENT);
+}
+
 static void test_messages(void)
 {
+    check_strings();
     check_fields();
     check_secondary_headers();
 }
@@ -658,7 +677,7 @@ static void overflow(void)
     for (uint32 i = 0; i < 8 + 20; i++)
         CHECK_STATUS(send(TLM_ID, i), CFE_SUCCESS);
     CHECK_STATUS(CFE_EVS_Register(NULL, 0, CFE_EVS_EventFilter_BINARY), CFE_SUCCESS);
-    CHECK_STATUS(CFE_EVS_SendEvent(3, CFE_EVS_EventType_DEBUG, "end"), CFE_SUCCESS);
+    CHECK_STATUS(CFE_EVS_SendInfo(3, "end of %d", 28), CFE_SUCCESS);
 }
 
 /* Events are printed as lines: all of the bus's, if that is configured. */
@@ -685,7 +704,8 @@ static void check_printed_events(void)
         CHECK(strcmp(line, "EVS Port1 66/1/CFE_SB 100: oldest id 0x0801 pipe 1 sender 1\n") == 0);
         lines++;
     }
-    CHECK(strcmp(line, "EVS Port1 66/1/FIRST 3: end\n") == 0 && !fgets(line, sizeof line, file));
+    CHECK(strcmp(line, "EVS Port1 66/1/FIRST 3: end of 28\n") == 0 &&
+          !fgets(line, sizeof line, file));
     fclose(file);
     unlink(path);
 }

@@ -18,6 +18,8 @@ from pathlib import Path
 TOP = Path(__file__).resolve().parents[3]
 CMD, SEND_HK, HK, EVENTS = 0x1882, 0x1883, 0x0883, 0x0808
 SECONDS = 60
+# The table of sample_app's, compiled; it stands beside the program.
+OBJECT = Path(sys.argv[-1]).resolve().parent / 'sample_app_tbl.o'
 
 
 def packet(ident, code, count, argument=b''):
@@ -90,7 +92,7 @@ def table_file(*words, **more):
 
 
 def load_tables(ground):
-    """Two files for sample_app's table, by values and from bytes; one for another table; and what is none."""
+    """Two files for sample_app's table, by values and from bytes; one for another table; one of its source; and what is none."""
     with tempfile.TemporaryDirectory() as folder:
         file = Path(folder) / 'sample.tbl'
         for words, table, event in (
@@ -105,6 +107,8 @@ def load_tables(ground):
             ground.event(event)
         ground.command(CMD, 2)
         ground.event('SAMPLE: sum 9')
+        expect(table_file('object', OBJECT, cwd=folder), (0, b'', ''))
+        expect(table_file('bytes', Path(folder) / 'sample_app.tbl'), (0, struct.pack('HH', 3, 8), ''))
         file.write_bytes(file.read_bytes()[:-1])
         expect(table_file('show', file), (1, b'', f'table_file: {file}: 3 bytes, where the header says 4\n'))
 
