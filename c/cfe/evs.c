@@ -83,13 +83,24 @@ static const CFE_EVS_BinFilter_t bus_events[BUS_EVENTS + 1] = {
     {CFE_SB_Q_FULL_ERR_EID, CFE_EVS_FIRST_16_STOP},
     {FSW_SB_OLDEST_INF_EID, CFE_EVS_FIRST_16_STOP}};
 
-/* Events to be told, which the log forgets. */
+/* Of a refused call: the event of each status but CFE_SB_BAD_ARGUMENT. */
+static const struct {
+    uint32_t status;
+    uint16 id;
+} refusals[] = {{FSW_SB_MAX_PIPES_MET, CFE_SB_MAX_PIPES_MET_EID},
+                {FSW_SB_PIPE_CR_ERR, CFE_SB_CR_PIPE_ERR_EID},
+                {FSW_SB_MAX_MSGS_MET, CFE_SB_MAX_MSGS_MET_EID},
+                {FSW_SB_MAX_DESTS_MET, CFE_SB_MAX_DESTS_MET_EID},
+                {FSW_SB_MSG_TOO_BIG, CFE_SB_MSG_TOO_BIG_EID},
+                {FSW_SB_BUF_ALOC_ERR, CFE_SB_GET_BUF_ERR_EID}};
+
+/* Events to be told: the log forgets its own, and hasn't that a call was refused. */
 struct told {
     uint32_t count;
     struct {
         uint16 id, type;
         char text[LOGGED_TEXT + 1];
-    } event[LOG_LINES];
+    } event[LOG_LINES + 1];
 };
 
 /* Adds an event of the bus that its filter lets through. */
@@ -121,6 +132,23 @@ static void take_events(struct told *told)
     fsw_layer.events_seen = counts.sent;
 }
 
+/* Adds that a call was refused. */
+static void add_refusal(struct told *told, const struct app *app, struct fsw_asked asked,
+                        uint32_t status)
+{
+    uint16 id = asked.bad_argument;
+    char of_id[16] = "";
+    for (size_t i = 0; i < sizeof refusals / sizeof refusals[0]; i++)
+        if (refusals[i].status == status)
+            id = refusals[i].id;
+    if (asked.id)
+        snprintf(of_id, sizeof of_id, " id 0x%04x", (unsigned)asked.id);
+    told->event[told->count].id = id;
+    told->event[told->count].type = CFE_EVS_EventType_ERROR;
+    snprintf(told->event[told->count++].text, LOGGED_TEXT + 1, "%s%s refused 0x%08x app %s",
+             asked.call, of_id, (unsigned)fsw_status(status, CFE_SB_BAD_ARGUMENT), app->name);
+}
+
 /* Sends packets of the events. What the bus logs of these packets is not told: it would not end. */
 static void send_events(const struct app *app, const struct told *told)
 {
@@ -137,11 +165,13 @@ static void print_events(const struct fsw_config *config, const struct told *tol
         print_event(config, bus_name, told->event[i].id, told->event[i].text);
 }
 
-void fsw_leave_telling(struct app *app)
+void fsw_leave_telling(struct app *app, struct fsw_asked asked, uint32_t status)
 {
     struct told told;
     struct fsw_config config = fsw_layer.config;
     take_events(&told);
+    if (status != FSW_SUCCESS)
+        add_refusal(&told, app, asked, status);
     if (config.sends_events)
         send_events(app, &told);
     fsw_leave();
@@ -171,7 +201,7 @@ CFE_Status_t CFE_EVS_SendEvent(uint16 EventID, uint16 EventType, const char *Spe
     passed = status == FSW_SUCCESS && passed;
     if (passed && config.sends_events)
         send_packet(app, app->name, EventID, EventType, text);
-    fsw_leave_bus(app);
+    fsw_leave_bus(app, (struct fsw_asked){"", 0, 0}, FSW_SUCCESS);
     if (passed && config.prints_events)
         print_event(&config, app->name, EventID, text);
     return fsw_status(status, CFE_EVS_INVALID_PARAMETER);

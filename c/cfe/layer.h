@@ -175,16 +175,23 @@ static inline void fsw_wake(const struct fsw_sent *sent)
         fsw_wake_sleepers();
 }
 
-/*
- * Ends a call of an application's that the bus may have logged events of: these are sent and
- * printed where the configuration asks.
- */
-FSW_SELDOM void fsw_leave_telling(struct app *app);
+/* A call of the bus, if cFE tells by an event that it was refused. */
+struct fsw_asked {
+    const char *call;
+    uint16 bad_argument; /* the event for CFE_SB_BAD_ARGUMENT */
+    uint32 id;           /* the message id, or 0 */
+};
 
-static inline void fsw_leave_bus(struct app *app)
+/*
+ * Ends a call of an application's with this status. What the bus logged of it is sent and printed
+ * where the configuration asks, and that it was refused.
+ */
+FSW_SELDOM void fsw_leave_telling(struct app *app, struct fsw_asked asked, uint32_t status);
+
+static inline void fsw_leave_bus(struct app *app, struct fsw_asked asked, uint32_t status)
 {
     if (fsw_layer.config.sends_events || fsw_layer.config.prints_events)
-        fsw_leave_telling(app);
+        fsw_leave_telling(app, asked, status);
     else
         fsw_leave();
 }

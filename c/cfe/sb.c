@@ -1,4 +1,5 @@
 /* sb.c: the Software Bus in cFE's names. */
+#include "cfe_sb_events.h"
 #include "layer.h"
 
 #include <errno.h>
@@ -40,7 +41,7 @@ CFE_Status_t CFE_SB_CreatePipe(CFE_SB_PipeId_t *PipeIdPtr, uint16 Depth, const c
         fsw_create_pipe(&fsw_layer.core, app->number, Depth, PipeName, strlen(PipeName), &number);
     if (status == FSW_SUCCESS)
         free_pipe()->number = *PipeIdPtr = number;
-    fsw_leave();
+    fsw_leave_bus(app, (struct fsw_asked){"CreatePipe", CFE_SB_CR_PIPE_BAD_ARG_EID, 0}, status);
     return fsw_status(status, CFE_SB_BAD_ARGUMENT);
 }
 
@@ -125,7 +126,7 @@ static CFE_Status_t subscribe(CFE_SB_MsgId_t MsgId, CFE_SB_PipeId_t PipeId, uint
     /* An id of over 16 bits is as bad as 0. */
     uint16_t id = MsgId > UINT16_MAX ? 0 : (uint16_t)MsgId;
     uint32_t status = fsw_subscribe(&fsw_layer.core, app->number, id, PipeId, limit, scope);
-    fsw_leave_bus(app);
+    fsw_leave_bus(app, (struct fsw_asked){"Subscribe", CFE_SB_SUB_ARG_ERR_EID, MsgId}, status);
     return fsw_status(status, CFE_SB_BAD_ARGUMENT);
 }
 
@@ -153,7 +154,7 @@ CFE_Status_t CFE_SB_Unsubscribe(CFE_SB_MsgId_t MsgId, CFE_SB_PipeId_t PipeId)
         return CFE_SB_BAD_ARGUMENT;
     uint16_t id = MsgId > UINT16_MAX ? 0 : (uint16_t)MsgId;
     uint32_t status = fsw_unsubscribe(&fsw_layer.core, app->number, id, PipeId);
-    fsw_leave_bus(app);
+    fsw_leave_bus(app, (struct fsw_asked){"Unsubscribe", CFE_SB_UNSUB_ARG_ERR_EID, MsgId}, status);
     return fsw_status(status, CFE_SB_BAD_ARGUMENT);
 }
 
@@ -186,6 +187,13 @@ static bool is_counted(const CFE_MSG_Message_t *message, bool is_asked)
     return is_asked && !(message->Byte[0] & 0x10);
 }
 
+/* Of a message, or of none that can be read. */
+static inline struct fsw_asked asked_to_send(const CFE_MSG_Message_t *message)
+{
+    uint32 id = message ? (uint32)(message->Byte[0] << 8 | message->Byte[1]) : 0;
+    return (struct fsw_asked){"Transmit", CFE_SB_SEND_BAD_ARG_EID, id};
+}
+
 CFE_Status_t CFE_SB_TransmitMsg(const CFE_MSG_Message_t *MsgPtr, bool IncrementSequenceCount)
 {
     struct fsw_sent sent;
@@ -198,7 +206,7 @@ CFE_Status_t CFE_SB_TransmitMsg(const CFE_MSG_Message_t *MsgPtr, bool IncrementS
                                    is_counted(MsgPtr, IncrementSequenceCount), &sent);
     if (status == FSW_SUCCESS)
         fsw_wake(&sent);
-    fsw_leave_bus(app);
+    fsw_leave_bus(app, asked_to_send(MsgPtr), status);
     return fsw_status(status, CFE_SB_BAD_ARGUMENT);
 }
 
@@ -250,6 +258,16 @@ FSW_SELDOM static uint32_t wait_for_message(struct app *app, uint32_t number, in
     return status == FSW_SUCCESS ? status : (uint32_t)CFE_SB_PIPE_RD_ERR;
 }
 
+/* Ends a receive without a message. */
+FSW_SELDOM static CFE_Status_t leave_empty(struct app *app, uint32_t status)
+{
+    if (status == FSW_SB_BAD_ARGUMENT)
+        fsw_leave_bus(app, (struct fsw_asked){"ReceiveBuffer", CFE_SB_RCV_BAD_ARG_EID, 0}, status);
+    else
+        fsw_leave();
+    return fsw_status(status, CFE_SB_BAD_ARGUMENT);
+}
+
 CFE_Status_t CFE_SB_ReceiveBuffer(CFE_SB_Buffer_t **BufPtr, CFE_SB_PipeId_t PipeId, int32 TimeOut)
 {
     struct fsw_message message;
@@ -264,9 +282,9 @@ CFE_Status_t CFE_SB_ReceiveBuffer(CFE_SB_Buffer_t **BufPtr, CFE_SB_PipeId_t Pipe
     uint32_t status = fsw_receive(&fsw_layer.core, app->number, PipeId, &message);
     if (status == FSW_SB_NO_MESSAGE && TimeOut != CFE_SB_POLL)
         status = wait_for_message(app, PipeId, TimeOut, &message);
-    fsw_leave();
     if (status != FSW_SUCCESS)
-        return fsw_status(status, CFE_SB_BAD_ARGUMENT);
+        return leave_empty(app, status);
+    fsw_leave();
     /* cFE's type lets an application write there; it is not to. */
     *BufPtr = (CFE_SB_Buffer_t *)(uintptr_t)message.at;
     return CFE_SUCCESS;
@@ -315,7 +333,8 @@ CFE_Status_t CFE_SB_TransmitBuffer(CFE_SB_Buffer_t *BufPtr, bool IncrementSequen
         fsw_transmit_buffer(&fsw_layer.core, app->number, buffer ? buffer : &none, counts, &sent);
     if (status == FSW_SUCCESS)
         fsw_wake(&sent);
-    fsw_leave_bus(app);
+    fsw_leave_bus(app, asked_to_send(status != FSW_SUCCESS && buffer ? &BufPtr->Msg : NULL),
+                  status);
     return fsw_status(status, CFE_SB_BAD_ARGUMENT);
 }
 

@@ -628,6 +628,41 @@ static void expect_bus_event(CFE_SB_PipeId_t events, uint16 id, uint16 type, con
     CHECK(strcmp(packet.Payload.Message, text) == 0);
 }
 
+/* Calls that are refused, each with an event. */
+static void check_refusal_events(CFE_SB_PipeId_t events, CFE_SB_PipeId_t pipe)
+{
+    static const uint16 error = CFE_EVS_EventType_ERROR;
+    static union {
+        CFE_SB_Buffer_t buffer;
+        uint8 bytes[40000];
+    } large;
+    CFE_MSG_Message_t *message = &large.buffer.Msg;
+    CFE_SB_PipeId_t other;
+    CFE_SB_Buffer_t *buffer;
+    CHECK_STATUS(CFE_SB_CreatePipe(&other, 8, "SMALL"), CFE_SB_PIPE_CR_ERR);
+    expect_bus_event(events, CFE_SB_CR_PIPE_ERR_EID, error,
+                     "CreatePipe refused 0xca000005 app FIRST", 0);
+    CHECK_STATUS(CFE_SB_CreatePipe(&other, 0, "OTHER"), CFE_SB_BAD_ARGUMENT);
+    expect_bus_event(events, CFE_SB_CR_PIPE_BAD_ARG_EID, error,
+                     "CreatePipe refused 0xca000003 app FIRST", 0);
+    CHECK_STATUS(CFE_SB_Subscribe(0x2000, pipe), CFE_SB_BAD_ARGUMENT);
+    expect_bus_event(events, CFE_SB_SUB_ARG_ERR_EID, error,
+                     "Subscribe id 0x2000 refused 0xca000003 app FIRST", 0);
+    CHECK_STATUS(CFE_SB_Unsubscribe(TLM_ID, 99), CFE_SB_BAD_ARGUMENT);
+    expect_bus_event(events, CFE_SB_UNSUB_ARG_ERR_EID, error,
+                     "Unsubscribe id 0x0801 refused 0xca000003 app FIRST", 0);
+    CHECK_STATUS(CFE_MSG_Init(message, TLM_ID, sizeof large), CFE_SUCCESS);
+    CHECK_STATUS(CFE_SB_TransmitMsg(message, true), CFE_SB_MSG_TOO_BIG);
+    expect_bus_event(events, CFE_SB_MSG_TOO_BIG_EID, error,
+                     "Transmit id 0x0801 refused 0xca000007 app FIRST", 0);
+    CHECK_STATUS(CFE_SB_TransmitBuffer(&large.buffer, true), CFE_SB_BUFFER_INVALID);
+    expect_bus_event(events, CFE_SB_SEND_BAD_ARG_EID, error,
+                     "Transmit refused 0xca00000e app FIRST", 0);
+    CHECK_STATUS(CFE_SB_ReceiveBuffer(&buffer, 99, CFE_SB_POLL), CFE_SB_BAD_ARGUMENT);
+    expect_bus_event(events, CFE_SB_RCV_BAD_ARG_EID, error,
+                     "ReceiveBuffer refused 0xca000003 app FIRST", 0);
+}
+
 static void test_bus_events(void)
 {
     static const uint16 info = CFE_EVS_EventType_INFORMATION, error = CFE_EVS_EventType_ERROR;
@@ -664,6 +699,7 @@ static void test_bus_events(void)
     CHECK_STATUS(send(TLM_ID, 0), CFE_SUCCESS);
     for (int i = 0; i < 16; i++)
         expect_bus_event(events, CFE_SB_Q_FULL_ERR_EID, error, full, pipe);
+    check_refusal_events(events, pipe);
     CHECK_STATUS(CFE_SB_ReceiveBuffer(&buffer, events, CFE_SB_POLL), CFE_SB_NO_MESSAGE);
 }
 
