@@ -165,8 +165,9 @@ static void print_events(const struct fsw_config *config, const struct told *tol
         print_event(config, bus_name, told->event[i].id, told->event[i].text);
 }
 
-void fsw_leave_telling(struct app *app, struct fsw_asked asked, uint32_t status)
+void fsw_leave_telling(struct fsw_asked asked, uint32_t status)
 {
+    const struct app *app = fsw_self->app;
     struct told told;
     struct fsw_config config = fsw_layer.config;
     take_events(&told);
@@ -201,7 +202,7 @@ CFE_Status_t CFE_EVS_SendEvent(uint16 EventID, uint16 EventType, const char *Spe
     passed = status == FSW_SUCCESS && passed;
     if (passed && config.sends_events)
         send_packet(app, app->name, EventID, EventType, text);
-    fsw_leave_bus(app, (struct fsw_asked){"", 0, 0}, FSW_SUCCESS);
+    fsw_leave_bus((struct fsw_asked){"", 0, 0}, FSW_SUCCESS);
     if (passed && config.prints_events)
         print_event(&config, app->name, EventID, text);
     return fsw_status(status, CFE_EVS_INVALID_PARAMETER);

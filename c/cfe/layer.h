@@ -183,15 +183,21 @@ struct fsw_asked {
 };
 
 /*
- * Ends a call of an application's with this status. What the bus logged of it is sent and printed
- * where the configuration asks, and that it was refused.
+ * Ends the caller's call with this status. What the bus logged of it is sent and printed where the
+ * configuration asks, and that it was refused.
  */
-FSW_SELDOM void fsw_leave_telling(struct app *app, struct fsw_asked asked, uint32_t status);
+FSW_SELDOM void fsw_leave_telling(struct fsw_asked asked, uint32_t status);
 
-static inline void fsw_leave_bus(struct app *app, struct fsw_asked asked, uint32_t status)
+/* Whether the configuration asks. */
+static inline bool fsw_tells_events(void)
 {
-    if (fsw_layer.config.sends_events || fsw_layer.config.prints_events)
-        fsw_leave_telling(app, asked, status);
+    return fsw_layer.config.sends_events || fsw_layer.config.prints_events;
+}
+
+static inline void fsw_leave_bus(struct fsw_asked asked, uint32_t status)
+{
+    if (fsw_tells_events())
+        fsw_leave_telling(asked, status);
     else
         fsw_leave();
 }
