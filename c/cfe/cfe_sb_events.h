@@ -26,6 +26,6 @@
 #define CFE_SB_SEND_BAD_ARG_EID    13
 #define CFE_SB_MSG_TOO_BIG_EID     15
 #define CFE_SB_GET_BUF_ERR_EID     16
-#define CFE_SB_RCV_BAD_ARG_EID     18
+#define CFE_SB_BAD_PIPEID_EID      19
 
 #endif

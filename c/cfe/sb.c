@@ -276,7 +276,7 @@ FSW_SELDOM static CFE_Status_t receive_later(CFE_SB_Buffer_t **BufPtr, CFE_SB_Pi
     if (status == FSW_SB_NO_MESSAGE && TimeOut != CFE_SB_POLL)
         status = wait_for_message(PipeId, TimeOut, &message);
     if (status == FSW_SB_BAD_ARGUMENT)
-        fsw_leave_bus((struct fsw_asked){"ReceiveBuffer", CFE_SB_RCV_BAD_ARG_EID, 0}, status);
+        fsw_leave_bus((struct fsw_asked){"ReceiveBuffer", CFE_SB_BAD_PIPEID_EID, 0}, status);
     else
         fsw_leave();
     if (status == FSW_SUCCESS)

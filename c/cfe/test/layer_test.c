@@ -659,7 +659,7 @@ static void check_refusal_events(CFE_SB_PipeId_t events, CFE_SB_PipeId_t pipe)
     expect_bus_event(events, CFE_SB_SEND_BAD_ARG_EID, error,
                      "Transmit refused 0xca00000e app FIRST", 0);
     CHECK_STATUS(CFE_SB_ReceiveBuffer(&buffer, 99, CFE_SB_POLL), CFE_SB_BAD_ARGUMENT);
-    expect_bus_event(events, CFE_SB_RCV_BAD_ARG_EID, error,
+    expect_bus_event(events, CFE_SB_BAD_PIPEID_EID, error,
                      "ReceiveBuffer refused 0xca000003 app FIRST", 0);
 }
 
