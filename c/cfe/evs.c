@@ -118,7 +118,10 @@ static void take_event(struct told *told, const struct fsw_log_line *line)
     told->event[told->count++].text[line->text_len] = '\0';
 }
 
-/* What the bus logged since it was asked last: of more than 20 lines, the last 20. */
+/*
+ * What the bus logged since it was asked last: of more than 20 lines, the last 20. Past 4294967295
+ * events the core counts no more, and none is told.
+ */
 static void take_events(struct told *told)
 {
     struct fsw_event_counts counts;

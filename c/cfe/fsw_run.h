@@ -27,6 +27,9 @@ struct fsw_config {
     bool all_bus_events; /* the bus's own are not filtered */
     uint32_t spacecraft;
     uint32_t processor;
+    /* Stands before the names of table files: with "." /cf/x.tbl is ./cf/x.tbl, as by cFE's OS
+     * layer on POSIX. Null: nothing. It stays where it is while the program runs. */
+    const char *file_root;
 };
 
 /* Says this before fsw_run; it stays. */

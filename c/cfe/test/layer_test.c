@@ -1016,6 +1016,40 @@ static void share_tables(void)
     atomic_store(&phase, 4);
 }
 
+static void run(const char *name, void (*first)(void), void (*second)(void), int expected)
+{
+    const struct fsw_app apps[2] = {{"FIRST", first}, {"SECOND", second}};
+    atomic_store(&phase, 0);
+    int answer = fsw_run(NULL, apps, second ? 2 : 1);
+    if (answer != expected) {
+        fprintf(stderr, "layer_test: %s: fsw_run answers %d, not %d\n", name, answer, expected);
+        exit(1);
+    }
+}
+
+/* The file's name, as cFE's applications have it, begins at the root of the configuration. */
+static void load_from_root(void)
+{
+    CFE_TBL_Handle_t handle;
+    CFE_TBL_Info_t info;
+    CHECK_STATUS(CFE_TBL_Register(&handle, "TABLE", sizeof(table_t), CFE_TBL_OPT_DEFAULT, NULL),
+                 CFE_SUCCESS);
+    good_file(9);
+    CHECK_STATUS(CFE_TBL_Load(handle, CFE_TBL_SRC_FILE, "/table.tbl"), CFE_SUCCESS);
+    CHECK(number_of(handle, CFE_TBL_INFO_UPDATED) == 9);
+    CHECK_STATUS(CFE_TBL_GetInfo(&info, "FIRST.TABLE"), CFE_SUCCESS);
+    CHECK(strcmp(info.LastFileLoaded, "/table.tbl") == 0);
+    CHECK_STATUS(CFE_TBL_Load(handle, CFE_TBL_SRC_FILE, "/none.tbl"), CFE_TBL_ERR_ACCESS);
+}
+
+static void check_file_root(void)
+{
+    const struct fsw_config rooted = {.file_root = folder}, plain = {.file_root = NULL};
+    fsw_configure(&rooted);
+    run("file root", load_from_root, NULL, 0);
+    fsw_configure(&plain);
+}
+
 /* ---- Runs ---- */
 
 static void go_on_until_stop(void)
@@ -1081,17 +1115,6 @@ static void check_refused_runs(void)
     CHECK(OS_TaskDelay(1) == OS_SUCCESS);
 }
 
-static void run(const char *name, void (*first)(void), void (*second)(void), int expected)
-{
-    const struct fsw_app apps[2] = {{"FIRST", first}, {"SECOND", second}};
-    atomic_store(&phase, 0);
-    int answer = fsw_run(NULL, apps, second ? 2 : 1);
-    if (answer != expected) {
-        fprintf(stderr, "layer_test: %s: fsw_run answers %d, not %d\n", name, answer, expected);
-        exit(1);
-    }
-}
-
 int main(int argc, char **argv)
 {
     const struct fsw_config config = {.sends_events = true,
@@ -1113,6 +1136,7 @@ int main(int argc, char **argv)
     run("stop", go_on_until_stop, stop, 0);
     run("failure", fail, succeed, 1);
     check_printed_events();
+    check_file_root();
     CHECK(CFE_ES_CalculateCRC("123456789", 9, 0, CFE_MISSION_ES_CRC_16) == 0xbb3d);
     unlink(path_of("table.tbl"));
     printf("layer_test passed\n");
