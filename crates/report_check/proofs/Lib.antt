@@ -1,0 +1,4 @@
+mod Ending
+mod Judging
+mod MergedTexts
+mod PartLaws
