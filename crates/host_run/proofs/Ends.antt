@@ -29,8 +29,8 @@ use Rattle.tbl_file.specs.declared.image.ImageFault.TheVariants as no_image
 use Rattle.tbl_file.specs.Image.{image_fault, name_in, offset_in, sub_in, table_in}
 use Rattle.report_check.specs.Parts.{parts_in}
 use Rattle.run_check.specs.Checks.{IsAnswer}
-use Rattle.run_check.specs.declared.verdict.Verdict.{Verdict}
-use Rattle.run_check.specs.declared.verdict.Verdict.TheVariants.{Yes, No}
+use Rattle.run_check.specs.declared.judgement.Judgement.{Judgement}
+use Rattle.run_check.specs.declared.judgement.Judgement.TheVariants.{Yes, No}
 use Rattle.host_run.specs.Checking.{most_checked, illegal_text, legal_text, missing_text}
 use Rattle.host_run.specs.Images.{most_image, most_table, image_text, image_fault_text, packed_file}
 use Rattle.host_run.specs.Serve.{Fed, Made, Outside, Served, Takes, Runs, Shows, Packs, Judges, EndsChecked, EndsParts, EndsVerdict, CompletesCheck, status_on, EndsNoImage, EndsShown, EndsPacked, CompletesImage, CompletesPack, IsLeftBy, Read, TooLong, SourceFailed, NoRoom, OtherWords, Serves, Ends, EndsInput, EndsScript, EndsRun, EndsText, EndsRefused, IsRead, Soaks, Tells, TellsFront, ReportsRunFront, fault_text, HasCauses, Completes, CompletesUnread, Headline, MakesNothing, Reports, ReportsRun, Way, Rotating, OnThreads, too_large, figures_after, report_part, part_shown}
@@ -105,7 +105,7 @@ causes-packed result name offset sub [] fed fed' old new ends = causes-text (NoI
 causes-packed result name offset sub (byte ∷ bytes) fed fed' old new ends =
     causes-text Done result (packed_file name offset sub (byte ∷ bytes)) (MakesNothing old new) fed fed' old new tt ends
 
-causes-verdict : (result : HostStatus) (verdict : Verdict) (fed fed' : Fed) (old new : Made) → EndsVerdict result verdict old new → HasCauses result fed fed' old new
+causes-verdict : (result : HostStatus) (verdict : Judgement) (fed fed' : Fed) (old new : Made) → EndsVerdict result verdict old new → HasCauses result fed fed' old new
 causes-verdict result Yes fed fed' old new ends = causes-text Done result legal_text ⊥ fed fed' old new tt ends
 causes-verdict result (No line) fed fed' old new ends = causes-text (Illegal line) result (illegal_text line) ⊥ fed fed' old new tt ends
 
@@ -193,14 +193,14 @@ completes-runs result how fed fed' old new (TooLong large ends) = λ input scrip
 completes-runs result how fed fed' old new (SourceFailed is rose part nothing) = λ input script told form source sink. absurd (source rose)
 completes-runs result how fed fed' old new (NoRoom is unread nothing) = λ input script told form source sink. inr is
 
-verdict-done : (result : HostStatus) (verdict : Verdict) (old new : Made) → EndsVerdict result verdict old new → ¬ Rose old.faults new.faults → (result ≡ status_on verdict) ⊎ IsNoMemory result
+verdict-done : (result : HostStatus) (verdict : Judgement) (old new : Made) → EndsVerdict result verdict old new → ¬ Rose old.faults new.faults → (result ≡ status_on verdict) ⊎ IsNoMemory result
 verdict-done result Yes old new ends = wanted-ends Done result (Tells old new legal_text) (TellsFront old new legal_text) ⊥ old new (λ front. front.cause) ends
 verdict-done result (No line) old new ends =
     wanted-ends (Illegal line) result (Tells old new (illegal_text line)) (TellsFront old new (illegal_text line)) ⊥ old new (λ front. front.cause) ends
 
 -- the answer on a report
 abbrev Answered : HostStatus → ScriptText → List ℕ → Type 0
-Answered result script report = ((verdict : Verdict) × IsAnswer script report verdict × (result ≡ status_on verdict)) ⊎ IsNoMemory result
+Answered result script report = ((verdict : Judgement) × IsAnswer script report verdict × (result ≡ status_on verdict)) ⊎ IsNoMemory result
 
 checked-done : (result : HostStatus) (script : ScriptText) (report : List ℕ) (old new : Made) → EndsChecked result (Ok script) report old new → ¬ Rose old.faults new.faults → Answered result script report
 checked-done result script report old new (inl judged) clean = by (verdict-done result judged.0 old new judged.2 clean)

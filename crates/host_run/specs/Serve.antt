@@ -29,8 +29,8 @@ use Rattle.host_run.specs.Input.{most_input, IsWhole, IsTooLarge, IsPartRead}
 use Rattle.host_run.specs.Checking.{most_checked, illegal_text, legal_text, missing_text}
 use Rattle.report_check.specs.Parts.{parts_in}
 use Rattle.run_check.specs.Checks.{IsAnswer}
-use Rattle.run_check.specs.declared.verdict.Verdict.{Verdict}
-use Rattle.run_check.specs.declared.verdict.Verdict.TheVariants.{Yes, No}
+use Rattle.run_check.specs.declared.judgement.Judgement.{Judgement}
+use Rattle.run_check.specs.declared.judgement.Judgement.TheVariants.{Yes, No}
 use Rattle.host_run.specs.Images.{most_image, most_table, image_text, image_fault_text, packed_file}
 use Rattle.tbl_file.specs.Image.{image_fault, name_in, offset_in, sub_in, table_in}
 use Rattle.tbl_file.specs.declared.image.ImageFault.{ImageFault}
@@ -231,7 +231,7 @@ EndsPacked result name offset sub (byte ∷ bytes) old new =
     old new
 
 -- how a check ends that came to a verdict: the line of this is due
-abbrev pub EndsVerdict : HostStatus → Verdict → Made → Made → Type 0
+abbrev pub EndsVerdict : HostStatus → Judgement → Made → Made → Type 0
 EndsVerdict result Yes old new = EndsText status.Done result legal_text ⊥ old new
 EndsVerdict result (No line) old new =
     EndsText (status.Illegal line) result (illegal_text line) ⊥ old new
@@ -240,7 +240,7 @@ EndsVerdict result (No line) old new =
 -- memory for the check; if the text is no script, its first fault is.
 abbrev pub EndsChecked : HostStatus → Result ScriptText ScriptFault → List ℕ → Made → Made → Type 0
 EndsChecked result (Ok script) report old new =
-    ((verdict : Verdict) × IsAnswer script report verdict × EndsVerdict result verdict old new)
+    ((verdict : Judgement) × IsAnswer script report verdict × EndsVerdict result verdict old new)
     ⊎ (IsNoMemory result × MakesNothing old new)
 EndsChecked result (Err fault) report old new = EndsRefused result fault old new
 
@@ -250,7 +250,7 @@ EndsParts result None old new = EndsText status.MissingPart result missing_text 
 EndsParts result (Some parts) old new = EndsChecked result (grammar parts.0) parts.1 old new
 
 -- the status of a verdict
-abbrev pub status_on : Verdict → HostStatus
+abbrev pub status_on : Judgement → HostStatus
 status_on Yes = status.Done
 status_on (No line) = status.Illegal line
 
@@ -359,7 +359,7 @@ CompletesCheck result fed fed' old new =
     length input ≤ most_checked → parts_in input ≡ Some (text, report) →
     grammar text ≡ Ok script →
     ¬ Rose fed.faults fed'.faults → ¬ Rose old.faults new.faults →
-    ((verdict : Verdict) × IsAnswer script report verdict × (result ≡ status_on verdict))
+    ((verdict : Judgement) × IsAnswer script report verdict × (result ≡ status_on verdict))
     ⊎ IsNoMemory result
 
 -- If the input is shown and is a table image that `image` takes, and neither count of faults rose,

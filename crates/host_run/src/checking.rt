@@ -16,7 +16,7 @@ use crate::status::HostStatus;
 use app_script::Script;
 use fsw_base::{Sink, SinkGuard, Source, SourceGuard, WriteFault};
 use report_check::parts_of;
-use run_check::Verdict;
+use run_check::Judgement;
 use text_page::{Page, finish, put, put_number, write_text};
 
 // The most bytes that `check` takes.
@@ -119,7 +119,7 @@ fn judge<K: Sink>(
 }
 
 // Writes a verdict.
-fn tell_verdict<K: Sink>(verdict: Verdict, sink: &mut SinkGuard<'_, K>) -> HostStatus
+fn tell_verdict<K: Sink>(verdict: Judgement, sink: &mut SinkGuard<'_, K>) -> HostStatus
     requires { sink.old.failed ≡ false }
     ensures end { (audit : GuardedAudit) →
         EndsVerdict result verdict (made_through sink.old audit) (made_through sink.new audit) }
@@ -128,8 +128,8 @@ fn tell_verdict<K: Sink>(verdict: Verdict, sink: &mut SinkGuard<'_, K>) -> HostS
     ensures same_sink { sink.new.sink ≡ sink.old.sink }
 {
     match verdict {
-        Verdict::Yes => tell_legal(sink),
-        Verdict::No(line) => tell_illegal(line, sink),
+        Judgement::Yes => tell_legal(sink),
+        Judgement::No(line) => tell_illegal(line, sink),
     }
 }
 

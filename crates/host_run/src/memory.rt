@@ -18,7 +18,7 @@ use app_run::{Finished, Regions, lockstep};
 use app_script::{ReadFail, Script, read_script};
 use fsw_base::{Config, Gate, ScriptFault};
 use report_check::check;
-use run_check::Verdict;
+use run_check::Judgement;
 use script_generate::generate;
 use std::alloc::{AllocError, Global};
 use std::marker::Model;
@@ -105,7 +105,7 @@ impl Memory {
     }
 
     /// Whether a text is the report of a run of the script.
-    pub fn verdict(&mut self, script: &Script, report: &[u8]) -> Option<Verdict>
+    pub fn verdict(&mut self, script: &Script, report: &[u8]) -> Option<Judgement>
         ensures answer { IfSome result (λ verdict. IsAnswer script.now report.now verdict) }
         ensures refused { self.new.refused ≡ is_none result }
     {

@@ -12,8 +12,8 @@ use Rattle.app_script.specs.Script.{ScriptText}
 use Rattle.app_script.specs.ScriptRanges.{IsScript}
 use Rattle.script_runs.specs.Histories.{Histories}
 use Rattle.script_runs.specs.Runs.{IsRunOf}
-use Rattle.run_check.specs.declared.verdict.Verdict.{Verdict}
-use Rattle.run_check.specs.declared.verdict.Verdict.TheVariants.{Yes, No}
+use Rattle.run_check.specs.declared.judgement.Judgement.{Judgement}
+use Rattle.run_check.specs.declared.judgement.Judgement.TheVariants.{Yes, No}
 use Rattle.run_check.specs.Begun.{AreBegunTables, AreWholeTables, IsBegun, IsWhole}
 use Rattle.run_check.specs.Checks.{IsAnswer}
 use Rattle.run_check.specs.Fronts.{line_ends, wrong_line}
@@ -139,7 +139,7 @@ pub more_behind : (at to : Compared) (tail : List ℕ) → GoesPast at to tail �
 more_behind at to tail past more same = more (append_cancel_left tail to.rest [] (sym past.rest ∙ same ∙ sym (append-nil tail)))
 
 -- what is judged of the end is the answer on the whole
-pub end_is_answered : (script : ScriptText) (bytes tail : List ℕ) (h : Histories) (at : Compared) (verdict : Verdict) → IsScript script → IsRunOf script h →
+pub end_is_answered : (script : ScriptText) (bytes tail : List ℕ) (h : Histories) (at : Compared) (verdict : Judgement) → IsScript script → IsRunOf script h →
     GoesPast (unread bytes) at (entries_part script h) → report script h ≡ entries_part script h ++ tail → IsTailJudged at tail verdict → IsAnswer script bytes verdict
 end_is_answered script bytes tail h at Yes fine run past parts judged =
     judged_is_answered script bytes Yes fine (Right h run (past.rest ∙ ap (λ t. entries_part script h ++ t) judged ∙ sym parts) refl)
@@ -152,7 +152,7 @@ tables_on : (script : ScriptText) (history : List TableEntry) (t : TableReplay) 
 tables_on script history t same replayed = let P : ScriptText → Type 0 = λ s. AreBegunTables s history in subst P same replayed.begun
 
 -- past the lines of both services the end is judged, and is what the run's report has
-pub judged_at_end : (script : ScriptText) (bytes : List ℕ) (from at to : Compared) (r : Replay) (t : TableReplay) (tail : List ℕ) (verdict : Verdict) → IsScript script →
+pub judged_at_end : (script : ScriptText) (bytes : List ℕ) (from at to : Compared) (r : Replay) (t : TableReplay) (tail : List ℕ) (verdict : Judgement) → IsScript script →
     IsPastBus script bytes from r → GoesPast from at (codes "tables\n") → AreTableLines script at to t → tail ≡ tail_kept (length script.apps) r t → IsTailJudged to tail verdict →
     IsAnswer script bytes verdict
 judged_at_end script bytes from at to r t tail verdict fine past heading lines kept judged =

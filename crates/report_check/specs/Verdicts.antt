@@ -3,8 +3,8 @@ use Rattle.std.specs.Prelude.{◌≡◌, ℕ, ◌+◌, List}
 use Rattle.bus_words.specs.declared.history.Entry.{Entry}
 use Rattle.app_script.specs.Script.{ScriptText}
 use Rattle.script_runs.specs.Histories.{Histories}
-use Rattle.run_check.specs.declared.verdict.Verdict.{Verdict}
-use Rattle.run_check.specs.declared.verdict.Verdict.TheVariants.{Yes, No}
+use Rattle.run_check.specs.declared.judgement.Judgement.{Judgement}
+use Rattle.run_check.specs.declared.judgement.Judgement.TheVariants.{Yes, No}
 use Rattle.run_check.specs.Begun.{AreWholeTables, IsWhole}
 use Rattle.run_check.specs.Fronts.{wrong_line}
 use Rattle.run_check.specs.Openings.{bus_part}
@@ -37,7 +37,7 @@ pub record AreBehind (script : ScriptText) (histories : Histories) (r : Replay)
 
 -- this text and nothing else is what is left; or it isn't, and the number is that of the line in
 -- which it differs
-abbrev pub IsTailJudged : Compared → List ℕ → Verdict → Type 0
+abbrev pub IsTailJudged : Compared → List ℕ → Judgement → Type 0
 IsTailJudged at tail Yes = at.rest ≡ tail
 IsTailJudged at tail (No line) =
     (¬ (at.rest ≡ tail)) × (line ≡ at.lines + wrong_line at.rest tail)

@@ -7,7 +7,7 @@
 //! ```
 //! /// Whether a text is the report of a run of a script.
 //! fn is_legal(alloc: Global, script: &Script, report: &[u8]) -> Result<bool, AllocError> {
-//!     Ok(check(alloc, script, report)? == Verdict::Yes)
+//!     Ok(check(alloc, script, report)? == Judgement::Yes)
 //! }
 //! ```
 //!

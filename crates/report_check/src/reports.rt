@@ -9,7 +9,7 @@ use crate::tail::tail_of;
 use app_script::Script;
 use bus_replay::{BusReplay, BusReplayed, replay_bus};
 use replay_parts::ComparedText;
-use run_check::Verdict;
+use run_check::Judgement;
 use std::alloc::{AllocError, Global};
 use table_replay::{TablesReplayed, replay_tables};
 
@@ -21,18 +21,18 @@ use table_replay::{TablesReplayed, replay_tables};
 /// # Errors
 /// `AllocError` where memory runs out, or where a number of 32 bits is spent, which no report of
 /// fewer than 2^32 bytes leads to.
-pub fn check(alloc: Global, script: &Script, report: &[u8]) -> Result<Verdict, AllocError>
+pub fn check(alloc: Global, script: &Script, report: &[u8]) -> Result<Judgement, AllocError>
     ensures { IfOk result (λ verdict. IsAnswer script.now report.now verdict) }
 {
     script.recall_ranges();
     let mut text = ComparedText::new(report);
     let head = head_of(script);
     if !text.take(head) {
-        return Ok(Verdict::No(text.wrong_line(head)?));
+        return Ok(Judgement::No(text.wrong_line(head)?));
     }
     match replay_bus(alloc, script, &mut text)? {
         BusReplayed::Whole(bus) => check_tables(alloc, script, &bus, &mut text),
-        BusReplayed::Wrong(line) => Ok(Verdict::No(line)),
+        BusReplayed::Wrong(line) => Ok(Judgement::No(line)),
     }
 }
 
@@ -54,7 +54,7 @@ fn check_tables(
     script: &Script,
     bus: &BusReplay<'_>,
     text: &mut ComparedText<'_>,
-) -> Result<Verdict, AllocError>
+) -> Result<Judgement, AllocError>
     requires replayed { IsUnderWay bus.now }
     requires same { bus.now.script ≡ script.now }
     ensures { IfOk result (λ verdict. (bytes : List ℕ) →
@@ -62,26 +62,26 @@ fn check_tables(
 {
     script.recall_ranges();
     if !text.take(b"tables\n") {
-        return Ok(Verdict::No(text.wrong_line(b"tables\n")?));
+        return Ok(Judgement::No(text.wrong_line(b"tables\n")?));
     }
     match replay_tables(alloc, script, text)? {
         TablesReplayed::Whole(tables) => {
             let tail = tail_of(alloc, script.apps(), bus, &tables)?;
             check_tail(text, tail.as_slice())
         }
-        TablesReplayed::Wrong(line) => Ok(Verdict::No(line)),
+        TablesReplayed::Wrong(line) => Ok(Judgement::No(line)),
     }
 }
 
 // Judges what is behind the lines of all entries, of which none is missing: this has to be there,
 // and nothing else.
-fn check_tail(text: &mut ComparedText<'_>, tail: &[u8]) -> Result<Verdict, AllocError>
+fn check_tail(text: &mut ComparedText<'_>, tail: &[u8]) -> Result<Judgement, AllocError>
     ensures { IfOk result (λ verdict. IsTailJudged text.old tail.now verdict) }
 {
     let line = text.wrong_line(tail)?;
     if text.take(tail) && text.is_at_end() {
-        Ok(Verdict::Yes)
+        Ok(Judgement::Yes)
     } else {
-        Ok(Verdict::No(line))
+        Ok(Judgement::No(line))
     }
 }
