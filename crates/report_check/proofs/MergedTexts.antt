@@ -1,5 +1,5 @@
 -- Receipts of both services, one after another.
-use Rattle.std.proofs.Common.{◌≡◌, ℕ, zero, suc, ◌+◌, add-one, ◌<◌, Bool, true, false, ◌⊎◌, inl, inr, List, [], ◌∷◌, ◌++◌, length, map, take, drop, get_or, refl, ap, sym, ◌∙◌, arith, append_assoc, append-nil}
+use Rattle.std.proofs.Common.{◌≡◌, ℕ, zero, suc, ◌+◌, add-one, ◌<◌, Bool, true, false, true≢false, ◌↔◌, IsTrue, List, [], ◌∷◌, ◌++◌, length, map, take, drop, get_or, refl, ap, sym, ◌∙◌, arith, append_assoc, append-nil}
 use Rattle.std.specs.Prelude.{nat_lt, if◌then◌else◌}
 use Rattle.std.specs.List.{range_with_len}
 use Rattle.std.proofs.lemmas.Grind.{flat_map-append}
@@ -39,12 +39,18 @@ merged-none : (bus : List Made) → merged bus [] ≡ receipts_in bus
 merged-none [] = refl
 merged-none (m ∷ ms) = refl
 
-pub put_rest : (app : ℕ) (bus tables : List Made) → (length bus ≡ 0) ⊎ (length tables ≡ 0) →
+pub put_rest : (app : ℕ) (bus tables : List Made) → ¬ ((0 < length bus) × (0 < length tables)) →
     application_text app (receipts_in bus) ++ application_text app (receipts_in tables) ≡ application_text app (merged bus tables)
 put_rest app [] tables none = refl
 put_rest app (m ∷ ms) [] none = append-nil (application_text app (receipts_in (m ∷ ms))) ∙ ap (application_text app) (sym (merged-none (m ∷ ms)))
-put_rest app (m ∷ ms) (t ∷ ts) (inl none) = absurd (omega (arith, none))
-put_rest app (m ∷ ms) (t ∷ ts) (inr none) = absurd (omega (arith, none))
+put_rest app (m ∷ ms) (t ∷ ts) none = absurd (none (omega arith, omega arith))
+
+-- what a test says
+pub it_holds : (P : Type 0) (b : Bool) → b ≡ true → IsTrue b ↔ P → P
+it_holds P b is both = both.0 is
+
+pub it_fails : (P : Type 0) (b : Bool) → b ≡ false → IsTrue b ↔ P → ¬ P
+it_fails P b is both = λ holds. true≢false (sym (both.1 holds) ∙ is)
 
 -- the text of what is put is that of all, where this is what was put and what is left
 pub put_more : (app : ℕ) (all left more : List Receipt) (r : Receipt) (put : List ℕ) → application_text app all ≡ put ++ application_text app left → left ≡ r ∷ more →

@@ -1,9 +1,9 @@
 //! The lines on what each application received and held.
-ghost use Rattle.std.specs.Prelude.{◌≡◌, ◌≤◌, length, map};
+ghost use Rattle.std.specs.Prelude.{◌≡◌, ◌<◌, ◌≤◌, ◌↔◌, drop, length, map, IsTrue};
 ghost use Rattle.std.specs.List.{range_with_len};
 ghost use Rattle.text_page.specs.Pieces.{Puts};
 ghost use Rattle.run_check.specs.Merged.{merged, receipts_in};
-ghost use Rattle.run_report.specs.ReceiptText.{application_text, receipts_text};
+ghost use Rattle.run_report.specs.ReceiptText.{application_text, receipt_text, receipts_text};
 ghost use Rattle.report_check.specs.Tails.{receipts_kept};
 
 use bus_replay::BusReplay;
@@ -73,19 +73,39 @@ fn put_merged<K: Sink>(
 {
     let mut of_bus = bus;
     let mut of_tables = tables;
-    while !of_bus.is_empty() && !of_tables.is_empty() {
-        let made = &of_bus[0];
-        let other = &of_tables[0];
-        if made.place < other.place {
-            put_receipt(sink, page, app, &made.receipt);
-            of_bus = &of_bus[1..];
+    while are_both_left(of_bus, of_tables) {
+        if comes_first(&of_bus[0], &of_tables[0]) {
+            put_made(sink, page, app, &of_bus[0]);
+            of_bus = behind_first(of_bus);
         } else {
-            put_receipt(sink, page, app, &other.receipt);
-            of_tables = &of_tables[1..];
+            put_made(sink, page, app, &of_tables[0]);
+            of_tables = behind_first(of_tables);
         }
     }
     put_all(sink, page, app, of_bus);
     put_all(sink, page, app, of_tables);
+}
+
+// Whether there are receipts of both services.
+fn are_both_left(bus: &[MadeReceipt], tables: &[MadeReceipt]) -> bool
+    ensures { IsTrue result ↔ ((0 < length bus.now) × (0 < length tables.now)) }
+{
+    !bus.is_empty() && !tables.is_empty()
+}
+
+// Whether the line of one receipt comes before that of another.
+fn comes_first(one: &MadeReceipt, other: &MadeReceipt) -> bool
+    ensures { IsTrue result ↔ (one.now.place < other.now.place) }
+{
+    one.place < other.place
+}
+
+// All receipts but the first.
+fn behind_first<'a>(made: &'a [MadeReceipt]) -> &'a [MadeReceipt]
+    requires { 0 < length made.now }
+    ensures { result.now ≡ drop 1 made.entry.now }
+{
+    &made[1..]
 }
 
 // Puts these receipts of an application.
@@ -94,7 +114,13 @@ fn put_all<K: Sink>(sink: &mut SinkGuard<'_, K>, page: &mut Page, app: usize, ma
         (application_text app (receipts_in made.now)) }
 {
     for i in 0..made.len() {
-        let one = &made[i];
-        put_receipt(sink, page, app, &one.receipt);
+        put_made(sink, page, app, &made[i]);
     }
+}
+
+// Puts a receipt of an application.
+fn put_made<K: Sink>(sink: &mut SinkGuard<'_, K>, page: &mut Page, app: usize, made: &MadeReceipt)
+    ensures { Puts sink.old sink.new page.old page.new (receipt_text app made.now.receipt) }
+{
+    put_receipt(sink, page, app, &made.receipt);
 }
