@@ -74,11 +74,13 @@ fn put_merged<K: Sink>(
     let mut of_bus = bus;
     let mut of_tables = tables;
     while are_both_left(of_bus, of_tables) {
-        if comes_first(&of_bus[0], &of_tables[0]) {
-            put_made(sink, page, app, &of_bus[0]);
+        let made = &of_bus[0];
+        let other = &of_tables[0];
+        if comes_first(made, other) {
+            put_made(sink, page, app, made);
             of_bus = behind_first(of_bus);
         } else {
-            put_made(sink, page, app, &of_tables[0]);
+            put_made(sink, page, app, other);
             of_tables = behind_first(of_tables);
         }
     }
