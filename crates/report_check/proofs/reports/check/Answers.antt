@@ -14,7 +14,7 @@ returns-in-Whole c =
     let script = c.args.script.now in
     let bytes = c.args.report.now in
     let head = head_there script bytes c.new-text.result c.take.new.self c.head_of-head.result.now c.take.result c.new-text.ensures c.head_of-head.ensures (search rules) c.take.ensures in
-    let lines = subst (λ (r : BusReplayed). AreReplayed script c.take.new.self c.replay_bus.new.text r) c.in-Whole.is c.in_ok-replay_bus.ensures.judged in
+    let lines = subst (λ (r : BusReplayed). AreReplayed script c.take.new.self c.replay_bus.new.text r) c.in-Whole.is c.in_ok-bus.ensures.judged in
     if_ok_more c.check_tables.result (λ verdict answers. answers bytes (past_bus script bytes c.take.new.self c.replay_bus.new.text c.in-Whole.bus head lines)) c.check_tables.ensures
 
 pub returns-in-Wrong : goal.returns-in-Wrong
@@ -23,4 +23,4 @@ returns-in-Wrong c =
     let bytes = c.args.report.now in
     let head = head_there script bytes c.new-text.result c.take.new.self c.head_of-head.result.now c.take.result c.new-text.ensures c.head_of-head.ensures (search rules) c.take.ensures in
     wrong_on_bus script bytes c.take.new.self c.in-Wrong.line head
-    (subst (λ (r : BusReplayed). AreFirstWrong script c.take.new.self r) c.in-Wrong.is c.in_ok-replay_bus.ensures.first)
+    (subst (λ (r : BusReplayed). AreFirstWrong script c.take.new.self r) c.in-Wrong.is c.in_ok-bus.ensures.first)
