@@ -1,4 +1,4 @@
-use Rattle.std.proofs.Common.{◌≡◌, ◌<◌, ◌∷◌, ◌++◌, List, length, drop, ap, sym, ◌∙◌, append_assoc}
+use Rattle.std.proofs.Common.{◌<◌, ◌∷◌, ◌++◌, List, length, ap, sym, ◌∙◌, append_assoc}
 use Rattle.text_page.proofs.PieceTexts.{◌▸◌, puts_as}
 use Rattle.run_report.specs.ReceiptText.{application_text, receipt_text}
 use Rattle.run_check.specs.Merged.{merged, receipts_in}
