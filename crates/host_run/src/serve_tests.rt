@@ -249,7 +249,7 @@ fn other_words_are_told_the_usage(rt: HostRuntime) -> Result<(), Fail> {
         let mut sink = MemSink::new(rt.alloc(), 100, 1000, &[])?;
         let status = serve_plainly(&rt, rt.alloc(), case, &mut source, &mut sink);
         assert_eq!(rt; status.exit_status(), 2);
-        assert_eq!(rt; sink.written(), USAGE.as_slice());
+        assert_eq!(rt; sink.written(), USAGE);
     }
     Ok(())
 }
