@@ -9,7 +9,7 @@
 
 #include <string.h>
 
-enum { OPENINGS = 300, UNIT = 16, LIMITS = 14 };
+enum { OPENINGS = 300, UNIT = 16, LIMITS = 15 };
 
 static size_t taken;
 static unsigned long requests, refused; /* the number of the request that is refused, or 0 */
@@ -97,9 +97,9 @@ static void refuse_each(const struct fsw_limits *limits)
 
 int main(void)
 {
-    static const uint32_t least[LIMITS] = {1, 0, 1, 1, 1, 1, 7, 24, 24, 1, 1, 1, 24, 1};
-    static const uint32_t most[LIMITS] = {16,      40,    1024, 256,  64,    1024,    65542,
-                                          1048576, 65536, 256,  1024, 65536, 1048576, 2};
+    static const uint32_t least[LIMITS] = {1, 0, 1, 1, 1, 1, 7, 24, 24, 1, 1, 1, 24, 1, 0};
+    static const uint32_t most[LIMITS] = {16,      40,    1024, 256,  64,    1024,    65542, 1048576,
+                                          65536, 256,  1024, 65536, 1048576, 2,   80000};
     const struct fsw_limits usual = FSW_USUAL_LIMITS;
     struct fsw_limits limits;
     uint32_t words[LIMITS];

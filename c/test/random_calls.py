@@ -38,7 +38,7 @@ NO_ROOM, BUFFER_OUT = 0xC0000009, 0xC000000A
 RULE_FAILED, DUPLICATE = 0xC0000100, 0x4C000007
 
 LIMITS = ('apps', 'buffers', 'msgids', 'pipes', 'dests', 'depth', 'msgmax', 'pool', 'apppool', 'tables', 'handles',
-          'tablemax', 'tablepool', 'version')
+          'tablemax', 'tablepool', 'version', 'blockmin')
 
 
 def struct(*fields):
@@ -103,6 +103,8 @@ class Run:
         cfg.pool, cfg.tablepool = draw.choice((200, 1000, 4000, 200000)), draw.choice((100, 500, 4000, 4000))
         cfg.apppool, cfg.tables, cfg.handles = draw.choice((200, POOL_BYTES)), draw.randint(1, 5), draw.randint(1, 8)
         cfg.tablemax, cfg.version = draw.choice((4, 40)), draw.randint(1, 2)
+        cfg.blockmin = draw.choice((0, 0, 8, 9, 33, 64, 80000))
+        cfg.sizes = [size for size in cfg.sizes if size >= cfg.blockmin]
         return cfg
 
     def ask(self, name, *words):
