@@ -121,7 +121,7 @@ extern "C" {
  */
 struct fsw_core {
     void *at;
-    bool is_open;
+    uint64_t is_open; /* 1 while it is open */
 };
 
 /* The limits of a core. */
@@ -176,7 +176,7 @@ struct fsw_buffer {
     uint8_t *at;     /* its first byte, at a multiple of 8 */
     size_t len;      /* how many there are: the whole block, at least as many as were asked for */
     uint64_t number; /* the number that its message will have */
-    bool is_out;     /* whether there is one */
+    uint64_t is_out; /* 1 while there is one */
 };
 
 /* The figures of a memory pool. Counts stop at 4294967295. */

@@ -61,7 +61,7 @@ static uint32_t draw(uint32_t least, uint32_t most)
 
 static void open_and_close(const struct fsw_limits *limits)
 {
-    struct fsw_core core = {NULL, false};
+    struct fsw_core core = {NULL, 0};
     uint64_t needed = fsw_bytes_needed(limits);
     taken = 0;
     CHECK_STATUS(fsw_open(&core, limits), FSW_SUCCESS);
@@ -79,7 +79,7 @@ static void open_and_close(const struct fsw_limits *limits)
 /* Each request for memory is refused in turn. */
 static void refuse_each(const struct fsw_limits *limits)
 {
-    struct fsw_core core = {NULL, false};
+    struct fsw_core core = {NULL, 0};
     unsigned long most = 0;
     requests = refused = 0;
     CHECK_STATUS(fsw_open(&core, limits), FSW_SUCCESS);

@@ -286,7 +286,7 @@ uint32_t fsw_raw_open(struct fsw_core *core, const struct fsw_limits *limits)
         c->bus_pool.first++;
     c->table_pool.first = c->bus_pool.first;
     c->events.mode = 1;
-    *core = (struct fsw_core){c, true};
+    *core = (struct fsw_core){c, 1};
     return FSW_SUCCESS;
 }
 
@@ -765,7 +765,7 @@ uint32_t fsw_raw_allocate_buffer(struct fsw_core *core, uint32_t app, uint32_t s
     block->number = ++c->numbers;
     block->next = c->unsent;
     c->unsent = block;
-    *buffer = (struct fsw_buffer){block->at, SIZES[block->class], block->number, true};
+    *buffer = (struct fsw_buffer){block->at, SIZES[block->class], block->number, 1};
     return FSW_SUCCESS;
 }
 
@@ -782,7 +782,7 @@ uint32_t fsw_raw_transmit_buffer(struct fsw_core *core, uint32_t app, struct fsw
     if (size_in(block->at) > block->size || !is_id(id_in(block->at)))
         return counted(&c->counters.send, FSW_SB_BAD_ARGUMENT);
     *at = block->next;
-    *buffer = (struct fsw_buffer){NULL, 0, 0, false};
+    *buffer = (struct fsw_buffer){NULL, 0, 0, 0};
     if (subs_of(c, id_in(block->at)) == 0) {
         go_nowhere(c, id_in(block->at), sent);
         free_block(c, block);
@@ -803,7 +803,7 @@ uint32_t fsw_raw_release_buffer(struct fsw_core *core, uint32_t app, struct fsw_
         return counted(&c->counters.send, FSW_SB_BUFFER_INVALID);
     *at = block->next;
     free_block(c, block);
-    *buffer = (struct fsw_buffer){NULL, 0, 0, false};
+    *buffer = (struct fsw_buffer){NULL, 0, 0, 0};
     return FSW_SUCCESS;
 }
 
@@ -1698,7 +1698,7 @@ uint32_t fsw_raw_close(struct fsw_core *core)
     for (uint32_t i = 0; i < c->pools; i++)
         free(c->pool[i].cut);
     free(c);
-    *core = (struct fsw_core){NULL, false};
+    *core = (struct fsw_core){NULL, 0};
     return FSW_SUCCESS;
 }
 

@@ -1,8 +1,9 @@
 //! Messages.
-ghost use Rattle.std.specs.Prelude.{◌≡◌, ◌≢◌};
+ghost use Rattle.std.specs.Prelude.{◌≡◌, ◌≢◌, true, IsSome};
 ghost use Rattle.bus_words.specs.declared.history.Call.TheVariants.{Transmit, Receive, Pend, Look, Housekeeping};
 ghost use Rattle.bus_words.specs.declared.calls.BusAnswer.TheVariants.{Sent, Got};
-ghost use Rattle.sb_box.specs.Asked.{unasked, unasked_look};
+ghost use Rattle.sb_box.specs.Asked.{is_application, unasked, unasked_look};
+ghost use Rattle.sb_box.specs.Box.{last_message};
 ghost use Rattle.fsw_c.specs.BusAnswers.{BusCall, AnswersBus, pipe_waited_on};
 ghost use Rattle.fsw_c.specs.Shown.{ShowsLast, last_shown, shown_length};
 
@@ -58,6 +59,17 @@ impl FswMessage {
         ensures number { result.number ≡ number }
     {
         let FswBytes { at, len } = FswBytes::of_any(bus.message(app, pipe));
+        FswMessage { at, len, number }
+    }
+
+    // The same of a message that the application received just now.
+    fn received(bus: &SbBox<'static>, app: u32, pipe: u32, number: u64) -> FswMessage
+        requires application { is_application bus.now.core app ≡ true }
+        requires there { IsSome (last_message bus.now.core app pipe) }
+        ensures length { result.len ≡ shown_length (last_shown bus.now app pipe) }
+        ensures number { result.number ≡ number }
+    {
+        let FswBytes { at, len } = FswBytes::of(bus.received(app, pipe));
         FswMessage { at, len, number }
     }
 }
@@ -139,7 +151,7 @@ pub extern "C" fn fsw_raw_receive(
     };
     let answer = it.bus.receive::<Brand>(app, pipe, Blank::new(1));
     if let Ok(Ok(number)) = answer {
-        *message = FswMessage::of(&it.bus, app, pipe, number);
+        *message = FswMessage::received(&it.bus, app, pipe, number);
     }
     *core = FswCore::open(it);
     code_of_call(&answer)
