@@ -28,15 +28,13 @@ pub struct FswSent {
 }
 
 impl FswSent {
-    /// What the bus answered.
-    pub(crate) fn of(sent: sb_plain::Sent) -> FswSent
-        ensures number { result.number ≡ sent.number }
-        ensures reached { result.reached ≡ sent.reached }
+    /// Tells what the bus answered, field by field, so that no bytes behind them are written.
+    pub(crate) fn tell(&mut self, sent: sb_plain::Sent)
+        ensures number { self.new.number ≡ sent.number }
+        ensures reached { self.new.reached ≡ sent.reached }
     {
-        FswSent {
-            number: sent.number,
-            reached: sent.reached,
-        }
+        self.number = sent.number;
+        self.reached = sent.reached;
     }
 }
 
@@ -97,7 +95,7 @@ pub extern "C" fn fsw_raw_transmit(
     let answer = it.bus.transmit::<Brand>(app, bytes, counts, Blank::new(1));
     *core = FswCore::open(it);
     if let Ok(Ok(given)) = answer {
-        *sent = FswSent::of(given);
+        sent.tell(given);
     }
     code_of_call(&answer)
 }
@@ -123,7 +121,7 @@ pub extern "C" fn fsw_raw_send_housekeeping(
     let answer = it.bus.send_housekeeping::<Brand>(app, Blank::new(1));
     *core = FswCore::open(it);
     if let Ok(Ok(given)) = answer {
-        *sent = FswSent::of(given);
+        sent.tell(given);
     }
     code_of_call(&answer)
 }
