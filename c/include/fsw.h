@@ -476,7 +476,7 @@ static inline uint64_t fsw_bytes_needed(const struct fsw_limits *limits)
     const uint64_t of_apps = limits->apps * (24ull * limits->pipes + 32ull * limits->buffers +
                                              24ull * limits->handles + 256);
     const uint64_t of_pipes = limits->pipes * (24ull * limits->depth + 160) +
-                              limits->msgids * (52ull * limits->dests + 84) + 96ull * limits->dests;
+                              limits->msgids * (52ull * limits->dests + 20) + 96ull * limits->dests;
     const uint64_t of_tables =
         4ull * limits->tablemax + 280ull * limits->tables + 48ull * limits->handles;
     const uint64_t of_pools =

@@ -45,8 +45,8 @@ are_bus_limits given =
 abbrev pub are_other_limits : FswLimits → Bool
 are_other_limits given =
     is_in 1 given.apps 16 && nat_le given.buffers 65535 && is_in 1 given.tables 256 &&
-    is_in 1 given.handles 1024 && is_in 1 given.tablemax 65536 && is_in 24 given.tablepool 16777216 &&
-    nat_le given.blockmin 80000
+    is_in 1 given.handles 1024 && is_in 1 given.tablemax 65536 &&
+    is_in 24 given.tablepool 16777216 && nat_le given.blockmin 80000
 
 -- each limit is in its range
 abbrev pub are_limits : FswLimits → Bool

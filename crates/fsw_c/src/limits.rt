@@ -105,7 +105,7 @@ fn are_other_limits(limits: &FswLimits) -> bool
         && limits.blockmin <= MAX_BLOCK_SIZE
 }
 
-/// The usual block sizes of so many bytes or more. The largest is always one of them.
+// The usual block sizes of so many bytes or more. The largest is always one of them.
 fn sizes_from(least: u32) -> BlockSizes
     requires { least ≤ MAX_BLOCK_SIZE }
     ensures { result ≡ sizes_from least }
@@ -121,8 +121,8 @@ fn sizes_from(least: u32) -> BlockSizes
     BlockSizes::try_new(kept.as_slice()).unwrap()
 }
 
-/// The configuration of these limits, with each sequence count at 0; None where a limit isn't in its
-/// range.
+/// The configuration of these limits, with each sequence count at 0; None where a limit isn't in
+/// its range.
 pub(crate) fn config_of(limits: &FswLimits) -> Option<Config>
     ensures valid { is_some result ≡ are_limits limits.now }
     ensures value { IfSome result (λ cfg. limits_of cfg ≡ limits_in limits.now) }
