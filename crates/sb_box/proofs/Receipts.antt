@@ -8,7 +8,7 @@ use Rattle.bus_words.specs.declared.calls.BusAnswer.{BusAnswer}
 use Rattle.bus_words.specs.declared.calls.BusAnswer.TheVariants.{Got}
 use Rattle.bus_words.specs.declared.history.Call.TheVariants.{Receive}
 use Rattle.bus_words.specs.Bus.{Item, Pipe, State, pipe_at, owns, with_pipe, oldest, after_receive, is_empty}
-use Rattle.bus_words.specs.Acts.{Whole, act, reads_in}
+use Rattle.bus_words.specs.Acts.{Whole, reads_in}
 use Rattle.bus_words.specs.Pipes.{last_on}
 use Rattle.bus_words.specs.Machine.{Reads, step_with, decided_with, recorded, by_bus, refused_if}
 use Rattle.lend_block.specs.Loan.{LentBytes}

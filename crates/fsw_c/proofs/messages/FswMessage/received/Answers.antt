@@ -1,4 +1,4 @@
-use Rattle.std.proofs.Common.{◌≡◌, ℕ, Bool, cond, List, Option, None, ap, sym, ◌∙◌}
+use Rattle.std.proofs.Common.{ℕ, Bool, cond, List, Option, None, ap, sym, ◌∙◌}
 use Rattle.sb_box.specs.Box.{last_message}
 use Rattle.fsw_c.specs.Shown.{shown_length}
 use Rattle.fsw_c.proofs.messages.FswMessage.received.Goals as goal
