@@ -61,13 +61,13 @@ impl FswMessage {
     }
 
     // The same of a message that the application received just now.
-    fn received(bus: &SbBox<'static>, app: u32, pipe: u32, number: u64) -> FswMessage
+    fn of_received(bus: &SbBox<'static>, app: u32, pipe: u32, number: u64) -> FswMessage
         requires application { is_application bus.now.core app ≡ true }
         requires there { IsSome (last_message bus.now.core app pipe) }
         ensures length { result.len ≡ shown_length (last_shown bus.now app pipe) }
         ensures number { result.number ≡ number }
     {
-        let FswBytes { at, len } = FswBytes::of(bus.received(app, pipe));
+        let FswBytes { at, len } = FswBytes::of(bus.received_message(app, pipe));
         FswMessage { at, len, number }
     }
 }
@@ -149,7 +149,7 @@ pub extern "C" fn fsw_raw_receive(
     };
     let answer = it.bus.receive::<Brand>(app, pipe, Blank::new(1));
     if let Ok(Ok(number)) = answer {
-        *message = FswMessage::received(&it.bus, app, pipe, number);
+        *message = FswMessage::of_received(&it.bus, app, pipe, number);
     }
     *core = FswCore::open(it);
     code_of_call(&answer)

@@ -83,7 +83,7 @@ impl<'r> SbBox<'r> {
     /// The message that [`SbBox::receive`] gave the application last on this pipe. As
     /// [`SbBox::message`], without its tests.
     #[inline(always)]
-    pub fn received(&self, app: u32, pipe: u32) -> &[u8]
+    pub fn received_message(&self, app: u32, pipe: u32) -> &[u8]
         requires application { is_application self.now.core app ≡ true }
         requires there { IsSome (last_message self.now.core app pipe) }
         ensures { Some result.now ≡ last_message self.now.core app pipe }
