@@ -53,9 +53,9 @@ def packed(form, values):
 
 
 def variable(data, name):
-    """The bytes of a variable of an object file (ELF of 64 bits, the lowest byte first)."""
-    if data[:6] != b'\x7fELF\x02\x01':
-        sys.exit('table_file: no object file of 64 bits')
+    """The bytes of a variable of an object file that isn't linked (ELF of 64 bits, the lowest byte first)."""
+    if data[:6] != b'\x7fELF\x02\x01' or data[16:18] != b'\x01\0':
+        sys.exit('table_file: no object file of 64 bits, as `gcc -c` makes it')
     first, = struct.unpack_from('<Q', data, 0x28)
     size, count = struct.unpack_from('<HH', data, 0x3A)
     # A section: its name, kind, flags, address, place in the file, bytes, and the section that it refers to.
