@@ -87,7 +87,7 @@ static unsigned long carry_messages(unsigned long rounds, uint32_t size, uint32_
 static unsigned long carry_buffers(unsigned long rounds, uint32_t size)
 {
     unsigned long received = 0;
-    struct fsw_buffer buffer = {NULL, 0, 0, false};
+    struct fsw_buffer buffer = {NULL, 0, 0, 0};
     open_pipes(1);
     for (unsigned long round = 0; round < rounds; round++) {
         struct fsw_sent sent;

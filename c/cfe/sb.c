@@ -333,7 +333,7 @@ CFE_SB_Buffer_t *CFE_SB_AllocateMessageBuffer(size_t MsgSize)
 
 CFE_Status_t CFE_SB_TransmitBuffer(CFE_SB_Buffer_t *BufPtr, bool IncrementSequenceCount)
 {
-    struct fsw_buffer none = {NULL, 0, 0, false};
+    struct fsw_buffer none = {NULL, 0, 0, 0};
     struct fsw_sent sent;
     if (!BufPtr)
         return CFE_SB_BAD_ARGUMENT;
@@ -354,7 +354,7 @@ CFE_Status_t CFE_SB_TransmitBuffer(CFE_SB_Buffer_t *BufPtr, bool IncrementSequen
 
 CFE_Status_t CFE_SB_ReleaseMessageBuffer(CFE_SB_Buffer_t *BufPtr)
 {
-    struct fsw_buffer none = {NULL, 0, 0, false};
+    struct fsw_buffer none = {NULL, 0, 0, 0};
     if (!BufPtr)
         return CFE_SB_BAD_ARGUMENT;
     struct app *app = fsw_enter();

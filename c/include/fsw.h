@@ -121,7 +121,7 @@ extern "C" {
  */
 struct fsw_core {
     void *at;
-    bool is_open;
+    uint64_t is_open; /* 1 while it is open */
 };
 
 /* The limits of a core. */
@@ -140,12 +140,13 @@ struct fsw_limits {
     uint32_t tablemax;  /* the largest table, 1 to 65536 bytes */
     uint32_t tablepool; /* the memory pool of the tables, 24 to 16777216 bytes */
     uint32_t version;   /* 1, or 2: then pipes have option FSW_PIPE_DROPS_OLDEST */
+    uint32_t blockmin;  /* the smallest block of each pool, 0 to 80000 bytes */
 };
 
 /* The usual limits, for sixteen applications. */
-#define FSW_USUAL_LIMITS                                                           \
-    {                                                                              \
-        16, 16, 256, 64, 16, 256, 32768, 524288, 65536, 128, 256, 16384, 524288, 1 \
+#define FSW_USUAL_LIMITS                                                              \
+    {                                                                                 \
+        16, 16, 256, 64, 16, 256, 32768, 524288, 65536, 128, 256, 16384, 524288, 1, 0 \
     }
 
 /* Bytes that are read where they lie. */
@@ -175,7 +176,7 @@ struct fsw_buffer {
     uint8_t *at;     /* its first byte, at a multiple of 8 */
     size_t len;      /* how many there are: the whole block, at least as many as were asked for */
     uint64_t number; /* the number that its message will have */
-    bool is_out;     /* whether there is one */
+    uint64_t is_out; /* 1 while there is one */
 };
 
 /* The figures of a memory pool. Counts stop at 4294967295. */
@@ -425,8 +426,12 @@ static inline bool fsw_is_bad(const void *pointer, size_t len)
  */
 
 /*
- * Opens a core of these limits, with the usual block sizes (8 to 80000 bytes) and each sequence
- * count at 0. The handle is all zero, or was closed. All memory is taken here.
+ * Opens a core of these limits, with each sequence count at 0. The handle is all zero, or was closed.
+ * All memory is taken here.
+ *
+ * Each pool has those of the sizes 8, 16, 32, 48, 64, 96, 128, 160, 256, 512, 1024, 2048, 4096, 8192,
+ * 16384, 32768 and 80000 that are limits.blockmin or more. A block takes 16 bytes beyond its size.
+ * The larger the smallest block, the fewer blocks there may be, and the less memory they need.
  *
  * FSW_ALREADY_OPEN; FSW_BAD_LIMITS if a limit isn't in its range; FSW_NO_MEMORY, after which some
  * of the memory may stay taken.
@@ -447,6 +452,17 @@ static inline uint32_t fsw_close(struct fsw_core *core)
     return core ? fsw_raw_close(core) : FSW_CLOSED;
 }
 
+/* The smallest block of limits in their ranges, in bytes. */
+static inline uint32_t fsw_least_block(const struct fsw_limits *limits)
+{
+    static const uint32_t sizes[] = {8,   16,   32,   48,   64,   96,    128,  160,
+                                     256, 512,  1024, 2048, 4096, 8192, 16384, 32768};
+    for (size_t i = 0; i < sizeof sizes / sizeof *sizes; i++)
+        if (limits->blockmin <= sizes[i])
+            return sizes[i];
+    return 80000;
+}
+
 /*
  * The bytes of memory that fsw_open takes at most for limits in their ranges, in blocks of whole
  * units of 16 bytes, as arena.c cuts them. This is counted off the library, and a test compares it.
@@ -455,12 +471,12 @@ static inline uint64_t fsw_bytes_needed(const struct fsw_limits *limits)
 {
     if (!limits)
         return 0;
-    const uint64_t blocks = limits->pool / 24, app_blocks = limits->apppool / 24,
-                   table_blocks = limits->tablepool / 24;
+    const uint64_t least = fsw_least_block(limits) + 16, blocks = limits->pool / least,
+                   app_blocks = limits->apppool / least, table_blocks = limits->tablepool / least;
     const uint64_t of_apps = limits->apps * (24ull * limits->pipes + 32ull * limits->buffers +
                                              24ull * limits->handles + 256);
     const uint64_t of_pipes = limits->pipes * (24ull * limits->depth + 160) +
-                              limits->msgids * (52ull * limits->dests + 84) + 96ull * limits->dests;
+                              limits->msgids * (52ull * limits->dests + 20) + 96ull * limits->dests;
     const uint64_t of_tables =
         4ull * limits->tablemax + 280ull * limits->tables + 48ull * limits->handles;
     const uint64_t of_pools =

@@ -11,7 +11,7 @@
 #define NAME(text) text, sizeof text - 1
 
 static struct fsw_core core;
-static const struct fsw_limits small = {2, 2, 3, 3, 2, 3, 256, 2048, 256, 2, 4, 64, 512, 1};
+static const struct fsw_limits small = {2, 2, 3, 3, 2, 3, 256, 2048, 256, 2, 4, 64, 512, 1, 0};
 
 /* A packet of so many bytes, each behind the header of this value. */
 static const uint8_t *packet(uint16_t id, size_t size, uint8_t fill)
@@ -132,6 +132,9 @@ static void openings(void)
     CHECK_STATUS(fsw_open(&core, &bad), FSW_BAD_LIMITS);
     bad = usual;
     bad.pipes = 0;
+    CHECK_STATUS(fsw_open(&core, &bad), FSW_BAD_LIMITS);
+    bad = usual;
+    bad.blockmin = 80001;
     CHECK_STATUS(fsw_open(&core, &bad), FSW_BAD_LIMITS);
     CHECK(fsw_bytes_needed(&usual) > usual.pool + usual.tablepool && fsw_bytes_needed(NULL) == 0);
     CHECK_STATUS(fsw_open(NULL, &usual), FSW_BAD_LIMITS);

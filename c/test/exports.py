@@ -13,7 +13,7 @@ from pathlib import Path
 HEADER = Path(__file__).resolve().parent.parent / 'include' / 'fsw.h'
 NUMBERS = {'uint8_t': 'u8', 'uint16_t': 'u16', 'uint32_t': 'u32', 'uint64_t': 'u64', 'size_t': 'usize', 'bool': 'bool'}
 # What a handle or a buffer points to stands in a struct of its own, which owns it.
-OWNED = {'FswCore': ['held: HeldCore', 'is_open: bool'], 'FswBuffer': ['lent: LentBlock', 'number: u64', 'is_out: bool']}
+OWNED = {'FswCore': ['held: HeldCore', 'is_open: u64'], 'FswBuffer': ['lent: LentBlock', 'number: u64', 'is_out: u64']}
 
 # What the header's inline functions alone answer: a null pointer for a call of the tables.
 INLINE = {'0xcc00002d'}

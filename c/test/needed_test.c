@@ -9,7 +9,7 @@
 
 #include <string.h>
 
-enum { OPENINGS = 300, UNIT = 16, LIMITS = 14 };
+enum { OPENINGS = 300, UNIT = 16, LIMITS = 15 };
 
 static size_t taken;
 static unsigned long requests, refused; /* the number of the request that is refused, or 0 */
@@ -61,7 +61,7 @@ static uint32_t draw(uint32_t least, uint32_t most)
 
 static void open_and_close(const struct fsw_limits *limits)
 {
-    struct fsw_core core = {NULL, false};
+    struct fsw_core core = {NULL, 0};
     uint64_t needed = fsw_bytes_needed(limits);
     taken = 0;
     CHECK_STATUS(fsw_open(&core, limits), FSW_SUCCESS);
@@ -79,7 +79,7 @@ static void open_and_close(const struct fsw_limits *limits)
 /* Each request for memory is refused in turn. */
 static void refuse_each(const struct fsw_limits *limits)
 {
-    struct fsw_core core = {NULL, false};
+    struct fsw_core core = {NULL, 0};
     unsigned long most = 0;
     requests = refused = 0;
     CHECK_STATUS(fsw_open(&core, limits), FSW_SUCCESS);
@@ -97,9 +97,9 @@ static void refuse_each(const struct fsw_limits *limits)
 
 int main(void)
 {
-    static const uint32_t least[LIMITS] = {1, 0, 1, 1, 1, 1, 7, 24, 24, 1, 1, 1, 24, 1};
-    static const uint32_t most[LIMITS] = {16,      40,    1024, 256,  64,    1024,    65542,
-                                          1048576, 65536, 256,  1024, 65536, 1048576, 2};
+    static const uint32_t least[LIMITS] = {1, 0, 1, 1, 1, 1, 7, 24, 24, 1, 1, 1, 24, 1, 0};
+    static const uint32_t most[LIMITS] = {16,      40,    1024, 256,  64,    1024,    65542, 1048576,
+                                          65536, 256,  1024, 65536, 1048576, 2,   80000};
     const struct fsw_limits usual = FSW_USUAL_LIMITS;
     struct fsw_limits limits;
     uint32_t words[LIMITS];

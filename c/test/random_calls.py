@@ -38,18 +38,18 @@ NO_ROOM, BUFFER_OUT = 0xC0000009, 0xC000000A
 RULE_FAILED, DUPLICATE = 0xC0000100, 0x4C000007
 
 LIMITS = ('apps', 'buffers', 'msgids', 'pipes', 'dests', 'depth', 'msgmax', 'pool', 'apppool', 'tables', 'handles',
-          'tablemax', 'tablepool', 'version')
+          'tablemax', 'tablepool', 'version', 'blockmin')
 
 
 def struct(*fields):
     return type('Struct', (ctypes.Structure,), {'_fields_': list(fields)})
 
 
-Core = struct(('at', POINTER), ('is_open', FLAG))
+Core = struct(('at', POINTER), ('is_open', U64))
 Limits = struct(*((name, U32) for name in LIMITS))
 Sent = struct(('number', U64), ('reached', U32))
 Bytes = struct(('at', POINTER), ('len', SIZE))
-Buffer = struct(('at', POINTER), ('len', SIZE), ('number', U64), ('is_out', FLAG))
+Buffer = struct(('at', POINTER), ('len', SIZE), ('number', U64), ('is_out', U64))
 Message = struct(('at', POINTER), ('len', SIZE), ('number', U64))
 PoolBlock = struct(('offset', U32), ('size', U32))
 PoolStats = struct(('size', U32), ('requests', U32), ('errors', U32), ('free', U32))
@@ -103,6 +103,8 @@ class Run:
         cfg.pool, cfg.tablepool = draw.choice((200, 1000, 4000, 200000)), draw.choice((100, 500, 4000, 4000))
         cfg.apppool, cfg.tables, cfg.handles = draw.choice((200, POOL_BYTES)), draw.randint(1, 5), draw.randint(1, 8)
         cfg.tablemax, cfg.version = draw.choice((4, 40)), draw.randint(1, 2)
+        cfg.blockmin = draw.choice((0, 0, 8, 9, 33, 64, 80000))
+        cfg.sizes = [size for size in cfg.sizes if size >= cfg.blockmin]
         return cfg
 
     def ask(self, name, *words):
@@ -288,7 +290,7 @@ class Run:
         if not self.may_bus(app) and sum(owner == app for owner, _, _ in self.buffers) >= self.room:
             return same('a buffer more', (status, fields(buffer)), (NO_ROOM, fields(Buffer())))
         answer = self.step(self.bus, app, ('alloc', size), status, (buffer.number,))
-        same('whether a buffer is out', buffer.is_out, bool(answer) and answer[0] == 'number')
+        same('whether a buffer is out', buffer.is_out, int(bool(answer) and answer[0] == 'number'))
         if buffer.is_out:
             same('a block', (buffer.len, buffer.at % 8), (min(each for each in self.cfg.sizes if each >= size), 0))
             same('a new buffer', ctypes.string_at(buffer.at, size), bytes(size))

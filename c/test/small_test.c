@@ -26,6 +26,7 @@ static const struct fsw_limits limits = {
     .tablemax = TABLE_BYTES,
     .tablepool = 4 * 1024,
     .version = 1,
+    .blockmin = 64,
 };
 
 static void send(uint16_t id, uint8_t fill)

@@ -31,8 +31,9 @@ enum {
 static const uint32_t SIZES[CLASSES] = {8,   16,   32,   48,   64,   96,    128,   160,  256,
                                         512, 1024, 2048, 4096, 8192, 16384, 32768, 80000};
 
-/* What a pool gave, by block size. */
+/* What a pool gave, by block size. The sizes before the first aren't the pool's. */
 struct account {
+    uint32_t first;
     uint32_t bytes, rest, requests, errors;
     uint32_t made[CLASSES], out[CLASSES];
 };
@@ -142,9 +143,9 @@ struct core {
 
 /* ---- Pools ---- */
 
-static uint32_t class_of(uint32_t size)
+static uint32_t class_of(const struct account *account, uint32_t size)
 {
-    uint32_t class = 0;
+    uint32_t class = account->first;
     while (class < CLASSES && SIZES[class] < size)
         class ++;
     return class;
@@ -152,7 +153,7 @@ static uint32_t class_of(uint32_t size)
 
 static bool fits(const struct account *account, uint32_t size, uint32_t count)
 {
-    uint32_t class = class_of(size);
+    uint32_t class = class_of(account, size);
     if (class == CLASSES)
         return false;
     uint32_t free = account->made[class] - account->out[class];
@@ -265,7 +266,8 @@ static bool are_limits(const struct fsw_limits *l)
            within(l->msgmax, 7, 65542) && within(l->pool, 24, 16777216) &&
            within(l->apppool, 24, 1048576) && within(l->tables, 1, 256) &&
            within(l->handles, 1, 1024) && within(l->tablemax, 1, 65536) &&
-           within(l->tablepool, 24, 16777216) && within(l->version, 1, 2);
+           within(l->tablepool, 24, 16777216) && within(l->version, 1, 2) &&
+           l->blockmin <= SIZES[CLASSES - 1];
 }
 
 uint32_t fsw_raw_open(struct fsw_core *core, const struct fsw_limits *limits)
@@ -280,8 +282,11 @@ uint32_t fsw_raw_open(struct fsw_core *core, const struct fsw_limits *limits)
     c->limits = *limits;
     c->bus_pool.bytes = c->bus_pool.rest = limits->pool;
     c->table_pool.bytes = c->table_pool.rest = limits->tablepool;
+    while (SIZES[c->bus_pool.first] < limits->blockmin)
+        c->bus_pool.first++;
+    c->table_pool.first = c->bus_pool.first;
     c->events.mode = 1;
-    *core = (struct fsw_core){c, true};
+    *core = (struct fsw_core){c, 1};
     return FSW_SUCCESS;
 }
 
@@ -301,7 +306,7 @@ static struct block *new_block(struct core *c, uint32_t size)
     struct block *block = calloc(1, sizeof *block);
     if (!block)
         abort();
-    block->class = class_of(size);
+    block->class = class_of(&c->bus_pool, size);
     block->size = size;
     block->at = calloc(1, SIZES[block->class]);
     if (!block->at)
@@ -760,7 +765,7 @@ uint32_t fsw_raw_allocate_buffer(struct fsw_core *core, uint32_t app, uint32_t s
     block->number = ++c->numbers;
     block->next = c->unsent;
     c->unsent = block;
-    *buffer = (struct fsw_buffer){block->at, SIZES[block->class], block->number, true};
+    *buffer = (struct fsw_buffer){block->at, SIZES[block->class], block->number, 1};
     return FSW_SUCCESS;
 }
 
@@ -777,7 +782,7 @@ uint32_t fsw_raw_transmit_buffer(struct fsw_core *core, uint32_t app, struct fsw
     if (size_in(block->at) > block->size || !is_id(id_in(block->at)))
         return counted(&c->counters.send, FSW_SB_BAD_ARGUMENT);
     *at = block->next;
-    *buffer = (struct fsw_buffer){NULL, 0, 0, false};
+    *buffer = (struct fsw_buffer){NULL, 0, 0, 0};
     if (subs_of(c, id_in(block->at)) == 0) {
         go_nowhere(c, id_in(block->at), sent);
         free_block(c, block);
@@ -798,7 +803,7 @@ uint32_t fsw_raw_release_buffer(struct fsw_core *core, uint32_t app, struct fsw_
         return counted(&c->counters.send, FSW_SB_BUFFER_INVALID);
     *at = block->next;
     free_block(c, block);
-    *buffer = (struct fsw_buffer){NULL, 0, 0, false};
+    *buffer = (struct fsw_buffer){NULL, 0, 0, 0};
     return FSW_SUCCESS;
 }
 
@@ -904,11 +909,13 @@ uint32_t fsw_raw_pool_create(struct fsw_core *core, uint32_t app, uint32_t bytes
     uint32_t why = unasked(c, app);
     if (why)
         return why;
-    if (c->pools == MOST_POOLS || !within(bytes, SIZES[0] + OVERHEAD, c->limits.apppool))
+    const uint32_t least = SIZES[c->bus_pool.first] + OVERHEAD;
+    if (c->pools == MOST_POOLS || !within(bytes, least, c->limits.apppool))
         return FSW_ES_ERR_MEM_BLOCK_SIZE;
     struct pool *made = &c->pool[c->pools++];
     made->account.bytes = made->account.rest = bytes;
-    made->cut = calloc(bytes / (SIZES[0] + OVERHEAD), sizeof *made->cut);
+    made->account.first = c->bus_pool.first;
+    made->cut = calloc(bytes / least, sizeof *made->cut);
     *pool = c->pools;
     return FSW_SUCCESS;
 }
@@ -940,7 +947,7 @@ uint32_t fsw_raw_pool_get(struct fsw_core *core, uint32_t app, uint32_t pool, ui
         return FSW_ES_NO_SUCH_POOL;
     if (!fits(&found->account, size, 1))
         return FSW_ES_ERR_MEM_BLOCK_SIZE;
-    struct cut *cut = draw_cut(found, class_of(size));
+    struct cut *cut = draw_cut(found, class_of(&found->account, size));
     cut->out = true;
     cut->app = app;
     cut->grant = ++found->given;
@@ -993,9 +1000,10 @@ uint32_t fsw_raw_pool_class(struct fsw_core *core, uint32_t pool, uint32_t place
     struct pool *found = pool_at(c, pool);
     if (!found)
         return FSW_ES_NO_SUCH_POOL;
-    if (place >= CLASSES)
-        return FSW_ES_BAD_ARGUMENT;
     const struct account *account = &found->account;
+    if (place >= CLASSES - account->first)
+        return FSW_ES_BAD_ARGUMENT;
+    place += account->first;
     *stats = (struct fsw_class_stats){SIZES[place], account->made[place],
                                       account->made[place] - account->out[place]};
     return FSW_SUCCESS;
@@ -1286,11 +1294,11 @@ static struct table *add_table(struct core *c, uint32_t app, const uint8_t *name
     memcpy(table->name, name, name_len);
     table->present = new_value(size, 0, NULL);
     for (uint32_t i = 0; i < blocks_of(option); i++)
-        draw(&c->table_pool, class_of(size));
+        draw(&c->table_pool, class_of(&c->table_pool, size));
     table->next = c->table;
     c->table = table;
     c->tables.tables++;
-    c->tables.bytes += blocks_of(option) * SIZES[class_of(size)];
+    c->tables.bytes += blocks_of(option) * SIZES[class_of(&c->table_pool, size)];
     return table;
 }
 
@@ -1376,9 +1384,9 @@ static void drop_staged(struct table *table)
 static void remove_table(struct core *c, struct table *table)
 {
     for (uint32_t i = 0; i < blocks_of(table->option); i++)
-        c->table_pool.out[class_of(table->size)]--;
+        c->table_pool.out[class_of(&c->table_pool, table->size)]--;
     c->tables.tables--;
-    c->tables.bytes -= blocks_of(table->option) * SIZES[class_of(table->size)];
+    c->tables.bytes -= blocks_of(table->option) * SIZES[class_of(&c->table_pool, table->size)];
     struct table **at = &c->table;
     while (*at != table)
         at = &(*at)->next;
@@ -1690,7 +1698,7 @@ uint32_t fsw_raw_close(struct fsw_core *core)
     for (uint32_t i = 0; i < c->pools; i++)
         free(c->pool[i].cut);
     free(c);
-    *core = (struct fsw_core){NULL, false};
+    *core = (struct fsw_core){NULL, 0};
     return FSW_SUCCESS;
 }
 

@@ -60,6 +60,7 @@ pub record OtherRanges (g : FswLimits) : Type 0 where
   pub handles : (1 ≤ g.handles) × (g.handles ≤ 1024)
   pub tablemax : (1 ≤ g.tablemax) × (g.tablemax ≤ 65536)
   pub tablepool : (24 ≤ g.tablepool) × (g.tablepool ≤ 16777216)
+  pub blockmin : g.blockmin ≤ 80000
 
 pub other-ranges : (g : FswLimits) → are_other_limits g ≡ true → OtherRanges g
 other-ranges g is =
@@ -69,7 +70,9 @@ other-ranges g is =
     let b3 = is_in 1 g.handles 1024 in
     let b4 = is_in 1 g.tablemax 65536 in
     let b5 = is_in 24 g.tablepool 16777216 in
-    let s5 = split (b0 && b1 && b2 && b3 && b4) b5 is in
+    let b6 = leb g.blockmin 80000 in
+    let s6 = split (b0 && b1 && b2 && b3 && b4 && b5) b6 is in
+    let s5 = split (b0 && b1 && b2 && b3 && b4) b5 s6.0 in
     let s4 = split (b0 && b1 && b2 && b3) b4 s5.0 in
     let s3 = split (b0 && b1 && b2) b3 s4.0 in
     let s2 = split (b0 && b1) b2 s3.0 in
@@ -80,4 +83,5 @@ other-ranges g is =
       handles = in-range 1 g.handles 1024 s3.1;
       tablemax = in-range 1 g.tablemax 65536 s4.1;
       tablepool = in-range 24 g.tablepool 16777216 s5.1;
+      blockmin = at-most g.blockmin 80000 s6.1;
     }

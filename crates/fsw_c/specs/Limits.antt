@@ -1,5 +1,5 @@
 -- The limits that a program in C gives, and the core that it gets.
-use Rattle.std.specs.Prelude.{◌≡◌, ℕ, ◌&&◌, Bool, nat_le, [], replicate}
+use Rattle.std.specs.Prelude.{◌≡◌, ℕ, ◌&&◌, Bool, nat_le, List, [], replicate, filter}
 use Rattle.fsw_base.specs.Blocks.{usual_sizes}
 use Rattle.fsw_base.specs.Limits.{Limits}
 use Rattle.bus_words.specs.Acts.{opening_whole}
@@ -7,7 +7,11 @@ use Rattle.tbl_words.specs.Tables.{opening}
 use Rattle.fsw_core.specs.declared.Core.{Core}
 use Rattle.fsw_c.specs.declared.limits.FswLimits.{FswLimits}
 
--- the limits given, with the usual block sizes and each sequence count at 0
+-- the usual block sizes of so many bytes or more
+abbrev pub sizes_from : ℕ → List ℕ
+sizes_from least = filter (λ size. nat_le least size) usual_sizes
+
+-- the limits given, with each sequence count at 0
 abbrev pub limits_in : FswLimits → Limits
 limits_in given = record {
   msgids = given.msgids;
@@ -21,7 +25,7 @@ limits_in given = record {
   handles = given.handles;
   tablemax = given.tablemax;
   tablepool = given.tablepool;
-  sizes = usual_sizes;
+  sizes = sizes_from given.blockmin;
   starts = [];
   version = given.version;
 }
@@ -41,7 +45,8 @@ are_bus_limits given =
 abbrev pub are_other_limits : FswLimits → Bool
 are_other_limits given =
     is_in 1 given.apps 16 && nat_le given.buffers 65535 && is_in 1 given.tables 256 &&
-    is_in 1 given.handles 1024 && is_in 1 given.tablemax 65536 && is_in 24 given.tablepool 16777216
+    is_in 1 given.handles 1024 && is_in 1 given.tablemax 65536 &&
+    is_in 24 given.tablepool 16777216 && nat_le given.blockmin 80000
 
 -- each limit is in its range
 abbrev pub are_limits : FswLimits → Bool

@@ -1,5 +1,5 @@
 //! A buffer that C has.
-ghost use Rattle.std.specs.Prelude.{◌≡◌, ◌↔◌, None, IsSome, IsTrue};
+ghost use Rattle.std.specs.Prelude.{◌≡◌, ◌↔◌, None, IsSome};
 ghost use Rattle.fsw_c.specs.Lent.{one_of};
 
 use crate::lent::LentBlock;
@@ -14,10 +14,10 @@ pub struct FswBuffer {
     pub(crate) lent: LentBlock,
     /// The number that its message will have.
     pub number: u64,
-    // Whether there is one.
-    pub(crate) is_out: bool,
+    // 1 where there is one, else 0. It fills the struct, as in the handle.
+    pub(crate) is_out: u64,
     /// There is one where there is a block.
-    pub ghost told: { IsTrue is_out ↔ IsSome lent.bytes },
+    pub ghost told: { (is_out ≡ 1) ↔ IsSome lent.bytes },
 }
 
 impl FswBuffer {
@@ -28,7 +28,7 @@ impl FswBuffer {
         FswBuffer {
             lent: LentBlock::none(),
             number: 0,
-            is_out: false,
+            is_out: 0,
         }
     }
 
@@ -43,7 +43,7 @@ impl FswBuffer {
             Some(block) => FswBuffer {
                 lent: LentBlock::of(block),
                 number,
-                is_out: true,
+                is_out: 1,
             },
             None => FswBuffer::none(),
         }
@@ -59,7 +59,7 @@ impl FswBuffer {
             number,
             is_out,
         } = mem::replace(self, FswBuffer::none());
-        if is_out {
+        if is_out == 1 {
             LentBuffer::of(number, lent.into_block())
         } else {
             LentBuffer::none()

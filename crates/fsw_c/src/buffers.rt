@@ -79,7 +79,7 @@ pub extern "C" fn fsw_raw_transmit_buffer(
     *core = FswCore::open(it);
     *buffer = FswBuffer::of(lent);
     if let Ok(Ok(given)) = answer {
-        *sent = FswSent::of(given);
+        sent.tell(given);
     }
     code_of_call(&answer)
 }

@@ -1,5 +1,5 @@
 //! What C holds of the core.
-ghost use Rattle.std.specs.Prelude.{◌≡◌, ◌↔◌, Some, None, IsSome, IsTrue, MatchOption};
+ghost use Rattle.std.specs.Prelude.{◌≡◌, ◌↔◌, Some, None, IsSome, MatchOption};
 
 use crate::held::HeldCore;
 use fsw_core::Core;
@@ -12,10 +12,10 @@ use std::mem;
 pub struct FswCore {
     // The core, or none.
     pub(crate) held: HeldCore,
-    // Whether there is one.
-    pub(crate) is_open: bool,
+    // 1 where there is one, else 0. It fills the struct, so that no call writes bytes behind it.
+    pub(crate) is_open: u64,
     /// It is open where there is a core.
-    pub ghost opened: { IsTrue is_open ↔ IsSome held.value },
+    pub ghost opened: { (is_open ≡ 1) ↔ IsSome held.value },
 }
 
 impl FswCore {
@@ -25,7 +25,7 @@ impl FswCore {
     {
         FswCore {
             held: HeldCore::of(core),
-            is_open: true,
+            is_open: 1,
         }
     }
 
@@ -35,12 +35,12 @@ impl FswCore {
             (λ core. self.old.held.value ≡ Some core.value) }
         ensures closed { self.new.held.value ≡ None }
     {
-        if !self.is_open {
+        if self.is_open != 1 {
             return None;
         }
         let closed = FswCore {
             held: HeldCore::none(alloc),
-            is_open: false,
+            is_open: 0,
         };
         let FswCore { held, is_open: _ } = mem::replace(self, closed);
         Some(held.into_box())

@@ -1,9 +1,14 @@
 //! The limits of a core.
 ghost use Rattle.std.specs.Prelude.{◌≡◌, ◌≤◌, IfSome, is_some};
 ghost use Rattle.fsw_base.specs.Limits.{limits_of};
-ghost use Rattle.fsw_c.specs.Limits.{is_in, are_bus_limits, are_other_limits, are_limits, limits_in};
+ghost use Rattle.fsw_base.specs.declared.blocks.TheConstants.{MAX_BLOCK_SIZE};
+ghost use Rattle.fsw_c.specs.Limits.{is_in, are_bus_limits, are_other_limits, are_limits, limits_in, sizes_from};
 
-use fsw_base::{BlockSizes, Config, CountStarts, MAX_APPS, MAX_MESSAGE_BYTES, MAX_TABLE_BYTES};
+use arrayvec::ArrayVec;
+use fsw_base::{
+    BlockSizes, Config, CountStarts, MAX_APPS, MAX_BLOCK_SIZE, MAX_BLOCK_SIZES, MAX_MESSAGE_BYTES,
+    MAX_TABLE_BYTES,
+};
 
 // The greatest of the limits that have no name elsewhere.
 const MAX_MSGIDS: u32 = 1024;
@@ -62,6 +67,8 @@ pub struct FswLimits {
     pub tablepool: u32,
     /// The version of the bus, 1 or 2.
     pub version: u32,
+    /// The smallest block of each pool, 0 to 80000 bytes: the usual sizes below it are left out.
+    pub blockmin: u32,
 }
 
 // Whether a number is in a range.
@@ -95,10 +102,27 @@ fn are_other_limits(limits: &FswLimits) -> bool
         && is_in(1, limits.handles, MAX_HANDLES)
         && is_in(1, limits.tablemax, MAX_TABLE_BYTES)
         && is_in(MIN_POOL_BYTES, limits.tablepool, MAX_POOL_BYTES)
+        && limits.blockmin <= MAX_BLOCK_SIZE
 }
 
-/// The configuration of these limits, with the usual block sizes and each sequence count at 0; None
-/// where a limit isn't in its range.
+// The usual block sizes of so many bytes or more. The largest is always one of them.
+fn sizes_from(least: u32) -> BlockSizes
+    requires { least ≤ MAX_BLOCK_SIZE }
+    ensures { result ≡ sizes_from least }
+{
+    let usual = BlockSizes::usual();
+    let mut kept: ArrayVec<u32, MAX_BLOCK_SIZES> = ArrayVec::new();
+    for place in 0..usual.count() {
+        let size = usual.at(place);
+        if least <= size {
+            kept.push(size);
+        }
+    }
+    BlockSizes::try_new(kept.as_slice()).unwrap()
+}
+
+/// The configuration of these limits, with each sequence count at 0; None where a limit isn't in
+/// its range.
 pub(crate) fn config_of(limits: &FswLimits) -> Option<Config>
     ensures valid { is_some result ≡ are_limits limits.now }
     ensures value { IfSome result (λ cfg. limits_of cfg ≡ limits_in limits.now) }
@@ -119,7 +143,7 @@ pub(crate) fn config_of(limits: &FswLimits) -> Option<Config>
         handles: limits.handles,
         tablemax: limits.tablemax,
         tablepool: limits.tablepool,
-        sizes: BlockSizes::usual(),
+        sizes: sizes_from(limits.blockmin),
         starts: CountStarts::none(),
         version: limits.version,
     })

@@ -1,8 +1,9 @@
 //! Messages.
-ghost use Rattle.std.specs.Prelude.{◌≡◌, ◌≢◌};
+ghost use Rattle.std.specs.Prelude.{◌≡◌, ◌≢◌, true, IsSome};
 ghost use Rattle.bus_words.specs.declared.history.Call.TheVariants.{Transmit, Receive, Pend, Look, Housekeeping};
 ghost use Rattle.bus_words.specs.declared.calls.BusAnswer.TheVariants.{Sent, Got};
-ghost use Rattle.sb_box.specs.Asked.{unasked, unasked_look};
+ghost use Rattle.sb_box.specs.Asked.{is_application, unasked, unasked_look};
+ghost use Rattle.sb_box.specs.Box.{last_message};
 ghost use Rattle.fsw_c.specs.BusAnswers.{BusCall, AnswersBus, pipe_waited_on};
 ghost use Rattle.fsw_c.specs.Shown.{ShowsLast, last_shown, shown_length};
 
@@ -27,15 +28,13 @@ pub struct FswSent {
 }
 
 impl FswSent {
-    /// What the bus answered.
-    pub(crate) fn of(sent: sb_plain::Sent) -> FswSent
-        ensures number { result.number ≡ sent.number }
-        ensures reached { result.reached ≡ sent.reached }
+    /// Tells what the bus answered, field by field, so that no bytes behind them are written.
+    pub(crate) fn tell(&mut self, sent: sb_plain::Sent)
+        ensures number { self.new.number ≡ sent.number }
+        ensures reached { self.new.reached ≡ sent.reached }
     {
-        FswSent {
-            number: sent.number,
-            reached: sent.reached,
-        }
+        self.number = sent.number;
+        self.reached = sent.reached;
     }
 }
 
@@ -58,6 +57,17 @@ impl FswMessage {
         ensures number { result.number ≡ number }
     {
         let FswBytes { at, len } = FswBytes::of_any(bus.message(app, pipe));
+        FswMessage { at, len, number }
+    }
+
+    // The same of a message that the application received just now.
+    fn of_received(bus: &SbBox<'static>, app: u32, pipe: u32, number: u64) -> FswMessage
+        requires application { is_application bus.now.core app ≡ true }
+        requires there { IsSome (last_message bus.now.core app pipe) }
+        ensures length { result.len ≡ shown_length (last_shown bus.now app pipe) }
+        ensures number { result.number ≡ number }
+    {
+        let FswBytes { at, len } = FswBytes::of(bus.received_message(app, pipe));
         FswMessage { at, len, number }
     }
 }
@@ -85,7 +95,7 @@ pub extern "C" fn fsw_raw_transmit(
     let answer = it.bus.transmit::<Brand>(app, bytes, counts, Blank::new(1));
     *core = FswCore::open(it);
     if let Ok(Ok(given)) = answer {
-        *sent = FswSent::of(given);
+        sent.tell(given);
     }
     code_of_call(&answer)
 }
@@ -111,7 +121,7 @@ pub extern "C" fn fsw_raw_send_housekeeping(
     let answer = it.bus.send_housekeeping::<Brand>(app, Blank::new(1));
     *core = FswCore::open(it);
     if let Ok(Ok(given)) = answer {
-        *sent = FswSent::of(given);
+        sent.tell(given);
     }
     code_of_call(&answer)
 }
@@ -139,7 +149,7 @@ pub extern "C" fn fsw_raw_receive(
     };
     let answer = it.bus.receive::<Brand>(app, pipe, Blank::new(1));
     if let Ok(Ok(number)) = answer {
-        *message = FswMessage::of(&it.bus, app, pipe, number);
+        *message = FswMessage::of_received(&it.bus, app, pipe, number);
     }
     *core = FswCore::open(it);
     code_of_call(&answer)

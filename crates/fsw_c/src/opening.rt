@@ -20,7 +20,7 @@ pub extern "C" fn fsw_raw_open(alloc: Global, core: &mut FswCore, limits: &FswLi
     ensures memory { result ≢ 0 → result ≢ already_open_code → result ≢ bad_limits_code →
         result ≡ no_memory_code }
 {
-    if core.is_open {
+    if core.is_open == 1 {
         return ALREADY_OPEN;
     }
     let Some(cfg) = config_of(limits) else {

@@ -6,5 +6,6 @@ pub mod LentReturns
 pub mod LentSeats
 pub mod Openings
 pub mod Reasons
+pub mod Receipts
 pub mod SeatLists
 pub mod Shown

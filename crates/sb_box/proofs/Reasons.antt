@@ -43,31 +43,6 @@ is_app app apps first known = ap (λ b. b && leb app apps) one ∙ there
     there : leb app apps ≡ true
     there = grind (arith, nat_tests)
 
-pub no_app_past : (app apps : ℕ) → apps < app → (leb 1 app && leb app apps) ≡ false
-no_app_past app apps past = by_first (leb 1 app)
-  where
-    none : leb app apps ≡ false
-    none = grind (arith, nat_tests)
-
-    by_first : (b : Bool) → (b && leb app apps) ≡ false
-    by_first true = none
-    by_first false = refl
-
--- an application has a number from 1 to 16
-pub no_app_outside : (app apps : ℕ) → apps ≤ 16 → ((1 ≤ app) × (app ≤ 16) → ⊥) → (leb 1 app && leb app apps) ≡ false
-no_app_outside app apps few outside = by_tests (leb 1 app) (leb app apps) refl refl
-  where
-    from : leb 1 app ≡ true → 1 ≤ app
-    from is = grind (arith, nat_tests)
-
-    to : leb app apps ≡ true → app ≤ apps
-    to is = grind (arith, nat_tests)
-
-    by_tests : (a b : Bool) → leb 1 app ≡ a → leb app apps ≡ b → (a && b) ≡ false
-    by_tests true true is there = absurd (outside (from is, omega (arith, few, to there)))
-    by_tests true false is there = refl
-    by_tests false b is there = refl
-
 pub of_no_app : (a w o n : Bool) (e : Refusal) → Some e ≡ app_cause a → Some e ≡ chain a w o n
 of_no_app true w o n e never = absurd (cc (never))
 of_no_app false w o n e is = is

@@ -1,5 +1,5 @@
 //! Whether the bus is asked.
-ghost use Rattle.std.specs.Prelude.{◌≡◌, ◌≤◌, ℕ, Bool, List, Some, None, IfOk, IsTrue, if◌then◌else◌};
+ghost use Rattle.std.specs.Prelude.{◌≡◌, ◌≤◌, ◌&&◌, nat_le, ℕ, Bool, List, Some, None, IfOk, IsTrue, if◌then◌else◌};
 ghost use Rattle.std.specs.Result.{result_err};
 ghost use Rattle.bus_words.specs.Entries.{call_of};
 ghost use Rattle.bus_words.specs.declared.history.Call.TheVariants.{Figures, TransmitBuffer, Release, PoolPut, Register};
@@ -10,7 +10,25 @@ use crate::boxed::SbBox;
 use crate::refusal::Refusal;
 use bus_words::BusCall;
 use fsw_base::AppNo;
+use ruled_out::surely_some;
 use sb_plain::is_within;
+
+// The application of a number, if so many are served.
+#[inline(always)]
+fn caller_among(app: u32, served: usize) -> Result<AppNo, Refusal>
+    requires few { served ≤ 16 }
+    ensures why { result_err result ≡
+        (if nat_le 1 app && nat_le app served then None else Some Refusal.NoApplication) }
+    ensures value { IfOk result (λ caller. caller ≡ app) }
+    ensures first { IfOk result (λ caller. 1 ≤ caller) }
+    ensures known { IfOk result (λ caller. caller ≤ served) }
+{
+    // 0 less 1 is past every number, so that one test tells all.
+    if app.wrapping_sub(1) as usize >= served {
+        return Err(Refusal::NoApplication);
+    }
+    Ok(surely_some(AppNo::try_new(app)))
+}
 
 impl<'r> SbBox<'r> {
     /// The application of a number.
@@ -22,14 +40,7 @@ impl<'r> SbBox<'r> {
         ensures first { IfOk result (λ caller. 1 ≤ caller) }
         ensures known { IfOk result (λ caller. caller ≤ apps_in self.now.core) }
     {
-        let served = self.core.apps();
-        let Some(caller) = AppNo::try_new(app) else {
-            return Err(Refusal::NoApplication);
-        };
-        if app as usize > served {
-            return Err(Refusal::NoApplication);
-        }
-        Ok(caller)
+        caller_among(app, self.core.apps())
     }
 
     /// The caller of a call that the bus may be asked. Inlined, it makes the tests of this one call

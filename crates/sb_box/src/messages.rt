@@ -1,5 +1,5 @@
 //! The calls of messages.
-ghost use Rattle.std.specs.Prelude.{◌≡◌, ◌<◌, false, true, None, Err, IfOk, OnErr, IsTrue};
+ghost use Rattle.std.specs.Prelude.{◌≡◌, ◌<◌, false, true, None, Some, Err, IfOk, OnErr, IsTrue, IsSome};
 ghost use Rattle.std.specs.Option.{option_map};
 ghost use Rattle.std.specs.Result.{result_err};
 ghost use Rattle.bus_words.specs.declared.history.Call.TheVariants.{Transmit, Receive};
@@ -14,6 +14,7 @@ use crate::refusal::Refusal;
 use bus_words::BusCall;
 use fsw_base::SbStatus;
 use housekeeping::CounterName;
+use ruled_out::surely_some;
 use sb_plain::Sent;
 use step_count::{Blank, Ledger, Steps};
 
@@ -69,11 +70,26 @@ impl<'r> SbBox<'r> {
         ensures others { IfOk result (λ answer. KeepsOtherBags self.old self.new app) }
         ensures buffers { IfOk result (λ answer. KeepsOwnBuffers self.old self.new app) }
         ensures loans { IfOk result (λ answer. KeepsLoans self.old.core self.new.core pipe) }
+        ensures application { IfOk result (λ answer. is_application self.new.core app ≡ true) }
+        ensures there { IfOk result
+            (λ answer. IfOk answer (λ number. IsSome (last_message self.new.core app pipe))) }
     {
         let caller = self.caller_for(app, &BusCall::Receive { pipe })?;
         let mut steps = Steps::<L>::new(blank);
         let bag = &mut self.bags[(caller.get() - 1) as usize];
         Ok(bag.receive(&mut self.core, caller, pipe, &mut steps))
+    }
+
+    /// The message that [`SbBox::receive`] gave the application last on this pipe. As
+    /// [`SbBox::message`], without its tests.
+    #[inline(always)]
+    pub fn received_message(&self, app: u32, pipe: u32) -> &[u8]
+        requires application { is_application self.now.core app ≡ true }
+        requires there { IsSome (last_message self.now.core app pipe) }
+        ensures { Some result.now ≡ last_message self.now.core app pipe }
+    {
+        let bag = &self.bags[(app - 1) as usize];
+        surely_some(bag.view_of(pipe)).bytes()
     }
 
     /// The message that the application received last on a pipe of its own. Its bytes stay where

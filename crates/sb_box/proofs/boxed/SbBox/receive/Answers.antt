@@ -1,9 +1,12 @@
-use Rattle.std.proofs.Common.{◌≡◌}
+use Rattle.std.proofs.Common.{◌≡◌, ℕ, IsSome, IfOk, subst, arith}
 use Rattle.std.proofs.lemmas.Result.{err_from_is_err_and}
 use Rattle.lend_block.specs.Loan.{LentBytes}
 use Rattle.buf_desc.specs.Held.{Holding}
 use Rattle.sb_box.proofs.Apps.{apps-acts}
-use Rattle.sb_box.proofs.Reasons.{handed_on, none_handed}
+use Rattle.sb_plain.specs.Core.{apps_in}
+use Rattle.sb_box.specs.Box.{last_message}
+use Rattle.sb_box.proofs.Reasons.{handed_on, none_handed, is_app}
+use Rattle.sb_box.proofs.Receipts.{last_there}
 use Rattle.sb_box.proofs.Kept.{placed, own-bag, kept-own, others-stay, own-stays}
 use Rattle.sb_box.proofs.boxed.SbBox.receive.Goals as goal
 
@@ -34,3 +37,14 @@ returns-in_err-caller-clause-unasked g c =
 
 pub returns-clause-unasked : goal.returns-clause-unasked
 returns-clause-unasked g c = none_handed c.caller_for.result c.in_ok-caller.caller _ c.caller_for.ensures.why c.in_ok-caller.was
+
+pub returns-clause-application : goal.returns-clause-application
+returns-clause-application g c =
+    let goes = apps-acts _ _ _ _ _ c.receive.ensures.does in
+    let here = placed c.self.inside.core c.self.inside.bags.items c.args.self.now c.args.app c.in_ok-caller.caller c.get.result c.self.invariant c.self.view_is c.get.ensures.value c.get.ensures.first c.in_ok-caller.ensures.value c.in_ok-caller.ensures.may.known in
+    is_app c.args.app (apps_in c.receive.new.core) (omega (arith, c.in_ok-caller.ensures.first, c.in_ok-caller.ensures.value)) (omega (arith, here.known, c.in_ok-caller.ensures.value, goes.apps))
+
+pub returns-clause-there : goal.returns-clause-there
+returns-clause-there g c =
+    subst (λ (who : ℕ). IfOk c.receive.result (λ number. IsSome (last_message c.receive.new.core who c.args.pipe))) c.in_ok-caller.ensures.value
+    (last_there c.self.inside.core c.receive.new.core c.in_ok-caller.caller c.args.pipe c.receive.result c.receive.ensures.does)
