@@ -1,0 +1,5 @@
+mod Ending
+mod Judging
+mod KeptReceipts
+mod MergedTexts
+mod PartLaws
