@@ -13,12 +13,6 @@ def model_of(path):
     return model
 
 
-def served(model, words):
-    """What the model answers. The word `check` is taken out of its usage line, since the program hasn't it yet."""
-    status, written = model.serve(words, model.stage_number(STAGE))
-    return status, written.replace(b" | check | image", b" | image") if status == 2 else written
-
-
 def compared(wanted, path):
     """Prints each line of the file that isn't the model's; the status: 0 where all are, else 1."""
     with open(path) as file:

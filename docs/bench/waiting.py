@@ -1,10 +1,10 @@
 #!/usr/bin/env python3
 """Draws scripts of sixteen applications that all send to and wait for each other, and runs them on
-threads: each run must end by itself within its time, and its report must be one that the executable
-model's checker holds for legal.
+threads: each run must end by itself within its time, and its report must be legal by the program's
+word `check`, and by the executable model's checker where its file is given.
 
     python3 docs/bench/waiting.py SEED                    writes the script of a seed
-    python3 docs/bench/waiting.py --model FILE [--count N] [--first SEED] [--times N] [--seconds N] [--keep FOLDER]
+    python3 docs/bench/waiting.py --count N [--model FILE] [--first SEED] [--times N] [--seconds N] [--keep FOLDER]
 
 A seed makes the same script each time; the scripts of so many seeds (--count) are each run so many times
 (--times; once, where it isn't given). The program is the built one, crates/host_run/out/host_run, or
@@ -25,9 +25,9 @@ sys.dont_write_bytecode = True  # nothing is left beside the scripts
 TOP = Path(__file__).resolve().parent.parent.parent
 sys.path.insert(0, str(TOP / ".ci"))
 
+from judging import PROGRAM, fault_of
 from model_answers import model_of
 
-PROGRAM = os.environ.get("PROGRAM", str(TOP / "crates/host_run/out/host_run"))
 APPS = 16
 FIRST_ID = 0x0801
 # A run that is late is looked at so often, so many seconds apart.
@@ -173,8 +173,7 @@ class Tally:
         """What is wrong with how it ended, or with its report."""
         if status or said:
             return f"status {status}, {said[:200]!r}"
-        illegal = self.model.check(self.model.read_script(text), report)
-        return illegal and "line %d of the report: %s" % illegal
+        return fault_of(text, report, self.model)
 
     def find(self, seed, text, report, wrong):
         self.findings += 1
@@ -196,15 +195,15 @@ def main():
     words.add_argument("seed", nargs="?", type=int)
     words.add_argument("--model")
     words.add_argument("--keep")
-    for name, value in (("count", 2000), ("first", 0), ("times", 1), ("seconds", 30)):
+    for name, value in (("count", 0), ("first", 0), ("times", 1), ("seconds", 30)):
         words.add_argument(f"--{name}", type=int, default=value)
     given = words.parse_args()
     if given.seed is not None:
         sys.stdout.buffer.write(script_of(given.seed))
         return 0
-    if not given.model:
-        words.error("--model FILE, the file of the executable model, or the seed of a script")
-    tally = Tally(model_of(given.model), given.seconds, given.keep)
+    if not given.count:
+        words.error("--count N, how many scripts are run, or the seed of a script")
+    tally = Tally(given.model and model_of(given.model), given.seconds, given.keep)
     for seed in range(given.first, given.first + given.count):
         tally.run_often(seed, given.times)
     print(tally.told())

@@ -27,8 +27,13 @@ use Rattle.tbl_load.specs.Core.{Core as TableCore, apps_of as table_apps_of}
 use Rattle.tbl_file.specs.declared.image.ImageFault.{ImageFault}
 use Rattle.tbl_file.specs.declared.image.ImageFault.TheVariants as no_image
 use Rattle.tbl_file.specs.Image.{image_fault, name_in, offset_in, sub_in, table_in}
+use Rattle.report_check.specs.Parts.{parts_in}
+use Rattle.run_check.specs.Checks.{IsAnswer}
+use Rattle.run_check.specs.declared.judgement.Judgement.{Judgement}
+use Rattle.run_check.specs.declared.judgement.Judgement.TheVariants.{Yes, No}
+use Rattle.host_run.specs.Checking.{most_checked, illegal_text, legal_text, missing_text}
 use Rattle.host_run.specs.Images.{most_image, most_table, image_text, image_fault_text, packed_file}
-use Rattle.host_run.specs.Serve.{Fed, Made, Outside, Served, Takes, Runs, Shows, Packs, EndsNoImage, EndsShown, EndsPacked, CompletesImage, CompletesPack, IsLeftBy, Read, TooLong, SourceFailed, NoRoom, OtherWords, Serves, Ends, EndsInput, EndsScript, EndsRun, EndsText, EndsRefused, IsRead, Soaks, Tells, TellsFront, ReportsRunFront, fault_text, HasCauses, Completes, CompletesUnread, Headline, MakesNothing, Reports, ReportsRun, Way, Rotating, OnThreads, too_large, figures_after, report_part, part_shown}
+use Rattle.host_run.specs.Serve.{Fed, Made, Outside, Served, Takes, Runs, Shows, Packs, Judges, EndsChecked, EndsParts, EndsVerdict, CompletesCheck, status_on, EndsNoImage, EndsShown, EndsPacked, CompletesImage, CompletesPack, IsLeftBy, Read, TooLong, SourceFailed, NoRoom, OtherWords, Serves, Ends, EndsInput, EndsScript, EndsRun, EndsText, EndsRefused, IsRead, Soaks, Tells, TellsFront, ReportsRunFront, fault_text, HasCauses, Completes, CompletesUnread, Headline, MakesNothing, Reports, ReportsRun, Way, Rotating, OnThreads, too_large, figures_after, report_part, part_shown}
 use Rattle.host_run.specs.Audit.{GuardedAudit}
 use Rattle.host_run.specs.Status.{IsNoMemory}
 use Rattle.host_run.specs.declared.memory.MemoryRefusal.{MemoryRefusal}
@@ -38,7 +43,7 @@ use Rattle.host_run.specs.declared.reporting.Part.TheVariants.{Whole, Ending}
 use Rattle.host_run.specs.declared.words.Task.{Task}
 use Rattle.host_run.specs.declared.words.Task.TheVariants as task
 use Rattle.host_run.specs.declared.status.HostStatus.{HostStatus}
-use Rattle.host_run.specs.declared.status.HostStatus.TheVariants.{Done, Usage, Script as Refused, ReadFault, WriteFault, NoMemory, Image as NoImage}
+use Rattle.host_run.specs.declared.status.HostStatus.TheVariants.{Done, Usage, Script as Refused, ReadFault, WriteFault, NoMemory, MissingPart, Illegal, Image as NoImage}
 
 -- an end has its cause, where the wanted one has and a front is written of a failed sink alone
 causes-ends : (wanted result : HostStatus) (Due Front Without : Type 0) (fed fed' : Fed) (old new : Made) → HasCauses wanted fed fed' old new →
@@ -49,6 +54,8 @@ causes-ends wanted (Refused fault) Due Front Without fed fed' old new wants rose
 causes-ends wanted ReadFault Due Front Without fed fed' old new wants rose ends = subst (λ r. HasCauses r fed fed' old new) (sym ends.0) wants
 causes-ends wanted WriteFault Due Front Without fed fed' old new wants rose ends = rose ends
 causes-ends wanted (NoMemory refused) Due Front Without fed fed' old new wants rose ends = tt
+causes-ends wanted MissingPart Due Front Without fed fed' old new wants rose ends = tt
+causes-ends wanted (Illegal line) Due Front Without fed fed' old new wants rose ends = tt
 causes-ends wanted (NoImage fault) Due Front Without fed fed' old new wants rose ends = tt
 
 causes-refused : (result : HostStatus) (fault : ScriptFault) (fed fed' : Fed) (old new : Made) → EndsRefused result fault old new → HasCauses result fed fed' old new
@@ -74,6 +81,8 @@ causes-none (Refused fault) fed fed' old new is = absurd is
 causes-none ReadFault fed fed' old new is = absurd is
 causes-none WriteFault fed fed' old new is = absurd is
 causes-none (NoMemory refused) fed fed' old new is = tt
+causes-none MissingPart fed fed' old new is = absurd is
+causes-none (Illegal line) fed fed' old new is = absurd is
 causes-none (NoImage fault) fed fed' old new is = absurd is
 
 -- each end has its cause
@@ -96,6 +105,25 @@ causes-packed result name offset sub [] fed fed' old new ends = causes-text (NoI
 causes-packed result name offset sub (byte ∷ bytes) fed fed' old new ends =
     causes-text Done result (packed_file name offset sub (byte ∷ bytes)) (MakesNothing old new) fed fed' old new tt ends
 
+causes-verdict : (result : HostStatus) (verdict : Judgement) (fed fed' : Fed) (old new : Made) → EndsVerdict result verdict old new → HasCauses result fed fed' old new
+causes-verdict result Yes fed fed' old new ends = causes-text Done result legal_text ⊥ fed fed' old new tt ends
+causes-verdict result (No line) fed fed' old new ends = causes-text (Illegal line) result (illegal_text line) ⊥ fed fed' old new tt ends
+
+causes-checked : (result : HostStatus) (found : Result ScriptText ScriptFault) (report : List ℕ) (fed fed' : Fed) (old new : Made) → EndsChecked result found report old new → HasCauses result fed fed' old new
+causes-checked result (Ok script) report fed fed' old new (inl judged) = causes-verdict result judged.0 fed fed' old new judged.2
+causes-checked result (Ok script) report fed fed' old new (inr none) = causes-none result fed fed' old new none.0
+causes-checked result (Err fault) report fed fed' old new ends = causes-refused result fault fed fed' old new ends
+
+causes-parts : (result : HostStatus) (parts : Option (List ℕ × List ℕ)) (fed fed' : Fed) (old new : Made) → EndsParts result parts old new → HasCauses result fed fed' old new
+causes-parts result None fed fed' old new ends = causes-text MissingPart result missing_text ⊥ fed fed' old new tt ends
+causes-parts result (Some parts) fed fed' old new ends = causes-checked result (grammar parts.0) parts.1 fed fed' old new ends
+
+causes-judges : (result : HostStatus) (fed fed' : Fed) (old new : Made) → Judges result fed fed' old new → HasCauses result fed fed' old new
+causes-judges result fed fed' old new (Read bytes whole ends) = causes-parts result (parts_in bytes) fed fed' old new ends
+causes-judges result fed fed' old new (TooLong large ends) = causes-refused result too_large fed fed' old new ends
+causes-judges result fed fed' old new (SourceFailed is rose part nothing) = subst (λ r. HasCauses r fed fed' old new) (sym is) rose
+causes-judges result fed fed' old new (NoRoom is unread nothing) = causes-none result fed fed' old new is
+
 causes-shows : (result : HostStatus) (fed fed' : Fed) (old new : Made) → Shows result fed fed' old new → HasCauses result fed fed' old new
 causes-shows result fed fed' old new (Read bytes whole ends) = causes-shown result (image_fault bytes) bytes fed fed' old new ends
 causes-shows result fed fed' old new (TooLong large ends) = causes-too_large result fed fed' old new ends
@@ -114,27 +142,30 @@ causes-task wanted result fed fed' old new serves task.Run is = causes-runs resu
 causes-task wanted result fed fed' old new serves task.Lockstep is = causes-runs result Rotating fed fed' old new (serves.lockstep is)
 causes-task wanted result fed fed' old new serves (task.Generate number) is = causes-text Done result (spelled_script (generated number)) (MakesNothing old new) fed fed' old new tt (serves.generates number is).ends
 causes-task wanted result fed fed' old new serves (task.Soak number) is = causes-script result Rotating Ending (generated number) fed fed' old new (serves.soaks number is).ends
+causes-task wanted result fed fed' old new serves task.Check is = causes-judges result fed fed' old new (serves.judges is)
 causes-task wanted result fed fed' old new serves task.ShowImage is = causes-shows result fed fed' old new (serves.shows is)
 causes-task wanted result fed fed' old new serves (task.Pack name offset sub) is = causes-packs result name offset sub fed fed' old new (serves.packs name offset sub is)
 
--- what was to be done is done, or there was no memory, where the sink didn't fail
-done-ends : (result : HostStatus) (Due Front Without : Type 0) (old new : Made) → (Front → Rose old.faults new.faults) → Ends Done result Due Front Without →
-    CompletesUnread result old new
-done-ends Done Due Front Without old new rose ends = λ clean. inl ends.0
-done-ends Usage Due Front Without old new rose ends = λ clean. inl ends.0
-done-ends (Refused fault) Due Front Without old new rose ends = λ clean. inl ends.0
-done-ends ReadFault Due Front Without old new rose ends = λ clean. inl ends.0
-done-ends WriteFault Due Front Without old new rose ends = λ clean. absurd (clean (rose ends))
-done-ends (NoMemory refused) Due Front Without old new rose ends = λ clean. inr tt
-done-ends (NoImage fault) Due Front Without old new rose ends = λ clean. inl ends.0
+-- what was wanted came, or there was no memory, where the sink didn't fail
+wanted-ends : (wanted result : HostStatus) (Due Front Without : Type 0) (old new : Made) → (Front → Rose old.faults new.faults) → Ends wanted result Due Front Without →
+    ¬ Rose old.faults new.faults → (result ≡ wanted) ⊎ IsNoMemory result
+wanted-ends wanted Done Due Front Without old new rose ends = λ clean. inl ends.0
+wanted-ends wanted Usage Due Front Without old new rose ends = λ clean. inl ends.0
+wanted-ends wanted (Refused fault) Due Front Without old new rose ends = λ clean. inl ends.0
+wanted-ends wanted ReadFault Due Front Without old new rose ends = λ clean. inl ends.0
+wanted-ends wanted WriteFault Due Front Without old new rose ends = λ clean. absurd (clean (rose ends))
+wanted-ends wanted (NoMemory refused) Due Front Without old new rose ends = λ clean. inr tt
+wanted-ends wanted MissingPart Due Front Without old new rose ends = λ clean. inl ends.0
+wanted-ends wanted (Illegal line) Due Front Without old new rose ends = λ clean. inl ends.0
+wanted-ends wanted (NoImage fault) Due Front Without old new rose ends = λ clean. inl ends.0
 
 pub script-done : (result : HostStatus) (how : Way) (part : Part) (script : ScriptText) (old new : Made) → EndsScript result how part script old new → CompletesUnread result old new
 script-done result how part script old new ends =
-    done-ends result (ReportsRun how part script old new) (ReportsRunFront how part script old new) (MakesNothing old new) old new (λ front. front.2.cause) ends
+    wanted-ends Done result (ReportsRun how part script old new) (ReportsRunFront how part script old new) (MakesNothing old new) old new (λ front. front.2.cause) ends
 
 -- and so does the writing of a text
 pub text-done : (result : HostStatus) (text : List ℕ) (without : Type 0) (old new : Made) → EndsText Done result text without old new → CompletesUnread result old new
-text-done result text without old new ends = done-ends result (Tells old new text) (TellsFront old new text) without old new (λ front. front.cause) ends
+text-done result text without old new ends = wanted-ends Done result (Tells old new text) (TellsFront old new text) without old new (λ front. front.cause) ends
 
 -- the input that was read whole is the one that was told
 whole-told : (most : ℕ) (bytes input : List ℕ) (left left' : Option (List ℕ)) → IsWhole most bytes left left' → left ≡ Some input → bytes ≡ input
@@ -161,6 +192,39 @@ completes-runs result how fed fed' old new (TooLong large ends) = λ input scrip
     absurd (omega (arith, length-grammar input script form, large-long most_input input fed.left fed'.left large told))
 completes-runs result how fed fed' old new (SourceFailed is rose part nothing) = λ input script told form source sink. absurd (source rose)
 completes-runs result how fed fed' old new (NoRoom is unread nothing) = λ input script told form source sink. inr is
+
+verdict-done : (result : HostStatus) (verdict : Judgement) (old new : Made) → EndsVerdict result verdict old new → ¬ Rose old.faults new.faults → (result ≡ status_on verdict) ⊎ IsNoMemory result
+verdict-done result Yes old new ends = wanted-ends Done result (Tells old new legal_text) (TellsFront old new legal_text) ⊥ old new (λ front. front.cause) ends
+verdict-done result (No line) old new ends =
+    wanted-ends (Illegal line) result (Tells old new (illegal_text line)) (TellsFront old new (illegal_text line)) ⊥ old new (λ front. front.cause) ends
+
+-- the answer on a report
+abbrev Answered : HostStatus → ScriptText → List ℕ → Type 0
+Answered result script report = ((verdict : Judgement) × IsAnswer script report verdict × (result ≡ status_on verdict)) ⊎ IsNoMemory result
+
+checked-done : (result : HostStatus) (script : ScriptText) (report : List ℕ) (old new : Made) → EndsChecked result (Ok script) report old new → ¬ Rose old.faults new.faults → Answered result script report
+checked-done result script report old new (inl judged) clean = by (verdict-done result judged.0 old new judged.2 clean)
+  where
+    by : (result ≡ status_on judged.0) ⊎ IsNoMemory result → Answered result script report
+    by (inl is) = inl (judged.0, judged.1, is)
+    by (inr none) = inr none
+checked-done result script report old new (inr none) clean = inr none.0
+
+completes-judges : (result : HostStatus) (fed fed' : Fed) (old new : Made) → Judges result fed fed' old new → CompletesCheck result fed fed' old new
+completes-judges result fed fed' old new (Read bytes whole ends) = λ input text report script told small split form source sink.
+    let same = whole-told most_checked bytes input fed.left fed'.left whole told in
+    checked-done result script report old new
+    (subst (λ found. EndsChecked result found report old new) form
+    (subst (λ parts. EndsParts result parts old new) (ap parts_in same ∙ split) ends)) sink
+completes-judges result fed fed' old new (TooLong large ends) = λ input text report script told small split form source sink.
+    absurd (omega (arith, small, large-long most_checked input fed.left fed'.left large told))
+completes-judges result fed fed' old new (SourceFailed is rose part nothing) = λ input text report script told small split form source sink. absurd (source rose)
+completes-judges result fed fed' old new (NoRoom is unread nothing) = λ input text report script told small split form source sink. inr is
+
+-- without memory for a script or for the check nothing is made, whatever the text is
+pub none-checked : (refused : MemoryRefusal) (found : Result ScriptText ScriptFault) (report : List ℕ) (old : Made) → EndsChecked (NoMemory refused) found report old old
+none-checked refused (Ok script) report old = inr (tt, refl)
+none-checked refused (Err fault) report old = refl
 
 completes-shown : (result : HostStatus) (found : Option ImageFault) (file : List ℕ) (old new : Made) → found ≡ None → EndsShown result found file old new → CompletesUnread result old new
 completes-shown result (Some fault) file old new none ends = absurd (cc none)
@@ -195,6 +259,8 @@ ends-other (Refused fault) fed fed' old new words = inl words.usage.0
 ends-other ReadFault fed fed' old new words = inl words.usage.0
 ends-other WriteFault fed fed' old new words = inr refl
 ends-other (NoMemory refused) fed fed' old new words = absurd words.usage
+ends-other MissingPart fed fed' old new words = inl words.usage.0
+ends-other (Illegal line) fed fed' old new words = inl words.usage.0
 ends-other (NoImage fault) fed fed' old new words = inl words.usage.0
 
 -- a text that was read whole, and is this script
@@ -232,6 +298,7 @@ serves-run (Some task.Run) result fed fed' old new needs runs = record {
   lockstep = λ words. absurd (cc words);
   generates = λ number words. absurd (cc words);
   soaks = λ number words. absurd (cc words);
+  judges = λ words. absurd (cc words);
   shows = λ words. absurd (cc words);
   packs = λ name offset sub words. absurd (cc words);
   other_words = λ words. absurd (cc words);
@@ -239,6 +306,7 @@ serves-run (Some task.Run) result fed fed' old new needs runs = record {
 serves-run (Some task.Lockstep) result fed fed' old new needs runs = absurd (true≢false (sym needs))
 serves-run (Some (task.Generate number)) result fed fed' old new needs runs = absurd (true≢false (sym needs))
 serves-run (Some (task.Soak number)) result fed fed' old new needs runs = absurd (true≢false (sym needs))
+serves-run (Some task.Check) result fed fed' old new needs runs = absurd (true≢false (sym needs))
 serves-run (Some task.ShowImage) result fed fed' old new needs runs = absurd (true≢false (sym needs))
 serves-run (Some (task.Pack name offset sub)) result fed fed' old new needs runs = absurd (true≢false (sym needs))
 serves-run None result fed fed' old new needs runs = absurd (true≢false (sym needs))
@@ -250,6 +318,7 @@ serves-other wanted result fed fed' old new none other = record {
   lockstep = λ words. absurd (cc (none, words));
   generates = λ number words. absurd (cc (none, words));
   soaks = λ number words. absurd (cc (none, words));
+  judges = λ words. absurd (cc (none, words));
   shows = λ words. absurd (cc (none, words));
   packs = λ name offset sub words. absurd (cc (none, words));
   other_words = λ words. other;
@@ -263,6 +332,21 @@ serves-soaks wanted number result fed fed' old new is done = record {
   lockstep = λ words. absurd (cc (is, words));
   generates = λ other words. absurd (cc (is, words));
   soaks = λ other words. subst (λ n. Soaks result n fed fed' old new) (cc (is, words)) done;
+  judges = λ words. absurd (cc (is, words));
+  shows = λ words. absurd (cc (is, words));
+  packs = λ name offset sub words. absurd (cc (is, words));
+  other_words = λ words. absurd (cc (is, words));
+}
+
+-- what happens on `check` is what happens
+pub serves-judges : (wanted : Option Task) (result : HostStatus) (fed fed' : Fed) (old new : Made) → wanted ≡ Some task.Check →
+    Judges result fed fed' old new → Serves wanted result fed fed' old new
+serves-judges wanted result fed fed' old new is done = record {
+  on_threads = λ words. absurd (cc (is, words));
+  lockstep = λ words. absurd (cc (is, words));
+  generates = λ number words. absurd (cc (is, words));
+  soaks = λ number words. absurd (cc (is, words));
+  judges = λ words. done;
   shows = λ words. absurd (cc (is, words));
   packs = λ name offset sub words. absurd (cc (is, words));
   other_words = λ words. absurd (cc (is, words));
@@ -276,6 +360,7 @@ serves-shows wanted result fed fed' old new is done = record {
   lockstep = λ words. absurd (cc (is, words));
   generates = λ number words. absurd (cc (is, words));
   soaks = λ number words. absurd (cc (is, words));
+  judges = λ words. absurd (cc (is, words));
   shows = λ words. done;
   packs = λ name offset sub words. absurd (cc (is, words));
   other_words = λ words. absurd (cc (is, words));
@@ -289,6 +374,7 @@ serves-packs wanted name offset sub result fed fed' old new is done = record {
   lockstep = λ words. absurd (cc (is, words));
   generates = λ number words. absurd (cc (is, words));
   soaks = λ number words. absurd (cc (is, words));
+  judges = λ words. absurd (cc (is, words));
   shows = λ words. absurd (cc (is, words));
   packs = λ other at what words.
       let one : name ≡ other = cc (is, words) in
@@ -382,6 +468,8 @@ ends-as ReadFault how part script histories text old new left is ends = (ends.0,
 ends-as WriteFault how part script histories text old new left is ends =
     (histories, left, record { front = subst (CutShort old.written new.written) is ends.front; cause = ends.cause; shown = ends.shown })
 ends-as (NoMemory refused) how part script histories text old new left is ends = absurd ends
+ends-as MissingPart how part script histories text old new left is ends = (ends.0, whole-as how part script histories text old new left is ends.1)
+ends-as (Illegal line) how part script histories text old new left is ends = (ends.0, whole-as how part script histories text old new left is ends.1)
 ends-as (NoImage fault) how part script histories text old new left is ends = (ends.0, whole-as how part script histories text old new left is ends.1)
 
 pub ends-run : (result : HostStatus) (how : Way) (part : Part) (script : ScriptText) (core : Core) (tables : TableCore) (lists : List Receipts) (old new : Made) →
@@ -428,6 +516,7 @@ served wanted result before after serves = record {
   lockstep = serves.lockstep;
   generates = serves.generates;
   soaks = serves.soaks;
+  judges = serves.judges;
   shows = serves.shows;
   packs = serves.packs;
   other_words = serves.other_words;
@@ -437,6 +526,7 @@ served wanted result before after serves = record {
   complete = λ words. completes-runs result Rotating before.fed after.fed before.made after.made (serves.lockstep words);
   complete_generates = λ number words. text-done result (spelled_script (generated number)) (MakesNothing before.made after.made) before.made after.made (serves.generates number words).ends;
   complete_soaks = λ number words. script-done result Rotating Ending (generated number) before.made after.made (serves.soaks number words).ends;
+  complete_judges = λ words. completes-judges result before.fed after.fed before.made after.made (serves.judges words);
   complete_shows = λ words. completes-shows result before.fed after.fed before.made after.made (serves.shows words);
   complete_packs = λ name offset sub words. completes-packs result name offset sub before.fed after.fed before.made after.made (serves.packs name offset sub words);
 }

@@ -1,4 +1,5 @@
 pub mod Audit
+pub mod Checking
 pub mod Copies
 pub mod Images
 pub mod Input

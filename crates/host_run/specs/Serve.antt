@@ -26,6 +26,11 @@ use Rattle.host_run.specs.Audit.{IsShown, GuardedAudit}
 use Rattle.app_run.specs.Runners.{histories_of}
 use Rattle.host_run.specs.Status.{IsNoMemory}
 use Rattle.host_run.specs.Input.{most_input, IsWhole, IsTooLarge, IsPartRead}
+use Rattle.host_run.specs.Checking.{most_checked, illegal_text, legal_text, missing_text}
+use Rattle.report_check.specs.Parts.{parts_in}
+use Rattle.run_check.specs.Checks.{IsAnswer}
+use Rattle.run_check.specs.declared.judgement.Judgement.{Judgement}
+use Rattle.run_check.specs.declared.judgement.Judgement.TheVariants.{Yes, No}
 use Rattle.host_run.specs.Images.{most_image, most_table, image_text, image_fault_text, packed_file}
 use Rattle.tbl_file.specs.Image.{image_fault, name_in, offset_in, sub_in, table_in}
 use Rattle.tbl_file.specs.declared.image.ImageFault.{ImageFault}
@@ -41,7 +46,7 @@ use Rattle.host_run.specs.declared.status.HostStatus.TheVariants as status
 
 -- the line that tells which words the program knows
 abbrev pub usage_text : List ℕ
-usage_text = codes "usage: run | lockstep | gen N | soak N | image | pack NAME OFFSET SUB\n"
+usage_text = codes "usage: run | lockstep | gen N | soak N | check | image | pack NAME OFFSET SUB\n"
 
 -- the line that tells a fault
 abbrev pub fault_text : ScriptFault → List ℕ
@@ -225,6 +230,30 @@ EndsPacked result name offset sub (byte ∷ bytes) old new =
     EndsText status.Done result (packed_file name offset sub (byte ∷ bytes)) (MakesNothing old new)
     old new
 
+-- how a check ends that came to a verdict: the line of this is due
+abbrev pub EndsVerdict : HostStatus → Judgement → Made → Made → Type 0
+EndsVerdict result Yes old new = EndsText status.Done result legal_text ⊥ old new
+EndsVerdict result (No line) old new =
+    EndsText (status.Illegal line) result (illegal_text line) ⊥ old new
+
+-- How a report ends on `check`, by the text before it: the answer on it is told, unless there is no
+-- memory for the check; if the text is no script, its first fault is.
+abbrev pub EndsChecked : HostStatus → Result ScriptText ScriptFault → List ℕ → Made → Made → Type 0
+EndsChecked result (Ok script) report old new =
+    ((verdict : Judgement) × IsAnswer script report verdict × EndsVerdict result verdict old new)
+    ⊎ (IsNoMemory result × MakesNothing old new)
+EndsChecked result (Err fault) report old new = EndsRefused result fault old new
+
+-- how an input ends on `check`, by its two parts
+abbrev pub EndsParts : HostStatus → Option (List ℕ × List ℕ) → Made → Made → Type 0
+EndsParts result None old new = EndsText status.MissingPart result missing_text ⊥ old new
+EndsParts result (Some parts) old new = EndsChecked result (grammar parts.0) parts.1 old new
+
+-- the status of a verdict
+abbrev pub status_on : Judgement → HostStatus
+status_on Yes = status.Done
+status_on (No line) = status.Illegal line
+
 -- On a word that takes an input of so many bytes at most, one of these happened. `ends` is how an
 -- input ends that is read whole, and `refuses` how a longer one does.
 pub data Takes (most : ℕ) (ends : List ℕ → Type 0) (refuses : Type 0) (result : HostStatus)
@@ -247,6 +276,12 @@ pub data Takes (most : ℕ) (ends : List ℕ → Type 0) (refuses : Type 0) (res
 abbrev pub Runs : Way → HostStatus → Fed → Fed → Made → Made → Type 0
 Runs how result fed fed' old new =
     Takes most_input (λ bytes. EndsInput result how (grammar bytes) old new)
+    (EndsRefused result too_large old new) result fed fed' old new
+
+-- on `check` the report that is read behind a script is judged, or a fault of the input told
+abbrev pub Judges : HostStatus → Fed → Fed → Made → Made → Type 0
+Judges result fed fed' old new =
+    Takes most_checked (λ bytes. EndsParts result (parts_in bytes) old new)
     (EndsRefused result too_large old new) result fed fed' old new
 
 -- on `image` the table image that is read is shown, or its fault told
@@ -287,6 +322,7 @@ pub record Serves (wanted : Option Task) (result : HostStatus) (fed fed' : Fed)
   pub generates : (number : ℕ) → wanted ≡ Some (task.Generate number) →
       Generates result number fed fed' old new
   pub soaks : (number : ℕ) → wanted ≡ Some (task.Soak number) → Soaks result number fed fed' old new
+  pub judges : wanted ≡ Some task.Check → Judges result fed fed' old new
   pub shows : wanted ≡ Some task.ShowImage → Shows result fed fed' old new
   pub packs : (name : List ℕ) (offset sub : ℕ) → wanted ≡ Some (task.Pack name offset sub) →
       Packs result name offset sub fed fed' old new
@@ -303,6 +339,8 @@ HasCauses status.WriteFault fed fed' old new = Rose old.faults new.faults
 HasCauses status.Done fed fed' old new = Unit {0}
 HasCauses (status.Script fault) fed fed' old new = Unit {0}
 HasCauses (status.NoMemory refused) fed fed' old new = Unit {0}
+HasCauses status.MissingPart fed fed' old new = Unit {0}
+HasCauses (status.Illegal line) fed fed' old new = Unit {0}
 HasCauses (status.Image fault) fed fed' old new = Unit {0}
 
 -- If the input is shown and is a script, and neither count of faults rose, all was done or there
@@ -312,6 +350,17 @@ Completes result fed fed' old new =
     (input : List ℕ) (script : ScriptText) → fed.left ≡ Some input → grammar input ≡ Ok script →
     ¬ Rose fed.faults fed'.faults → ¬ Rose old.faults new.faults →
     (result ≡ status.Done) ⊎ IsNoMemory result
+
+-- If the input is shown and has a script and a report, and neither count of faults rose, the answer
+-- is that on the report, or there was no memory.
+abbrev pub CompletesCheck : HostStatus → Fed → Fed → Made → Made → Type 0
+CompletesCheck result fed fed' old new =
+    (input text report : List ℕ) (script : ScriptText) → fed.left ≡ Some input →
+    length input ≤ most_checked → parts_in input ≡ Some (text, report) →
+    grammar text ≡ Ok script →
+    ¬ Rose fed.faults fed'.faults → ¬ Rose old.faults new.faults →
+    ((verdict : Judgement) × IsAnswer script report verdict × (result ≡ status_on verdict))
+    ⊎ IsNoMemory result
 
 -- If the input is shown and is a table image that `image` takes, and neither count of faults rose,
 -- all was done or there was no memory.
@@ -387,6 +436,8 @@ pub record Served (wanted : Option Task) (result : HostStatus)
       Generates result number before.fed after.fed before.made after.made
   pub soaks : (number : ℕ) → wanted ≡ Some (task.Soak number) →
       Soaks result number before.fed after.fed before.made after.made
+  pub judges : wanted ≡ Some task.Check →
+      Judges result before.fed after.fed before.made after.made
   pub shows : wanted ≡ Some task.ShowImage →
       Shows result before.fed after.fed before.made after.made
   pub packs : (name : List ℕ) (offset sub : ℕ) → wanted ≡ Some (task.Pack name offset sub) →
@@ -404,6 +455,8 @@ pub record Served (wanted : Option Task) (result : HostStatus)
       CompletesUnread result before.made after.made
   pub complete_soaks : (number : ℕ) → wanted ≡ Some (task.Soak number) →
       CompletesUnread result before.made after.made
+  pub complete_judges : wanted ≡ Some task.Check →
+      CompletesCheck result before.fed after.fed before.made after.made
   pub complete_shows : wanted ≡ Some task.ShowImage →
       CompletesImage result before.fed after.fed before.made after.made
   pub complete_packs : (name : List ℕ) (offset sub : ℕ) →

@@ -2,10 +2,19 @@
 ghost use Rattle.std.specs.Prelude.{◌≡◌, ℕ, ◌≤◌, true, false, OnOk, OnErr};
 ghost use Rattle.fsw_base.specs.Outside.{Rose};
 ghost use Rattle.text_page.specs.Pieces.{Grew, CutShort};
-ghost use Rattle.host_run.specs.Serve.{fault_text};
+ghost use Rattle.host_run.specs.Audit.{GuardedAudit};
+ghost use Rattle.host_run.specs.Serve.{EndsRefused, fault_text, made_through};
+ghost use Rattle.host_run.specs.Status.{is_read_fault, is_write_fault};
 
-use fsw_base::{ScriptFault, Sink, SinkGuard, WriteFault};
+use crate::status::HostStatus;
+use fsw_base::{FaultKind, ScriptFault, Sink, SinkGuard, WriteFault};
 use text_page::{Page, finish, put, put_number};
+
+/// The fault of an input that is longer than any of its word.
+pub(crate) const TOO_LARGE: ScriptFault = ScriptFault {
+    line: 0,
+    kind: FaultKind::TooLarge,
+};
 
 /// Writes the line of a fault: `script:LINE:NAME`. No write through this guard may have failed
 /// before.
@@ -33,4 +42,19 @@ pub(crate) fn write_fault<K: Sink>(
     put(sink, &mut page, fault.kind.name().as_bytes());
     put(sink, &mut page, b"\n");
     finish(sink, &mut page)
+}
+
+/// Writes what is wrong with the input.
+pub(crate) fn refuse<K: Sink>(sink: &mut SinkGuard<'_, K>, fault: ScriptFault) -> HostStatus
+    requires { sink.old.failed ≡ false }
+    ensures end { (audit : GuardedAudit) →
+        EndsRefused result fault (made_through sink.old audit) (made_through sink.new audit) }
+    ensures failed { sink.new.failed ≡ is_write_fault result }
+    ensures no_read_fault { is_read_fault result ≡ false }
+    ensures same_sink { sink.new.sink ≡ sink.old.sink }
+{
+    match write_fault(sink, fault) {
+        Ok(()) => HostStatus::Script(fault),
+        Err(WriteFault) => HostStatus::WriteFault,
+    }
 }

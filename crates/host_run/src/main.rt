@@ -1,9 +1,10 @@
 //! The program: reads a script, runs its applications on the software bus and on Table Services,
-//! each on a thread of its own or all in rotation, and writes a report. It also looks at table
-//! images and packs them.
+//! each on a thread of its own or all in rotation, and writes a report. It also
+//! checks reports, looks at table images and packs them.
 #![tactic(auto)]
 
 mod audit;
+mod checking;
 mod fault_line;
 #[cfg(test)]
 mod image_tests;

@@ -7,6 +7,7 @@ ghost use Rattle.app_run.specs.Openings.{HaveRoom};
 ghost use Rattle.app_run.specs.Runners.{histories_of};
 ghost use Rattle.app_script.specs.Grammar.{grammar};
 ghost use Rattle.fsw_base.specs.Limits.{limits_of};
+ghost use Rattle.run_check.specs.Checks.{IsAnswer};
 ghost use Rattle.sb_calls.specs.Core.{apps_of};
 ghost use Rattle.script_generate.specs.Generated.{generated};
 ghost use Rattle.script_runs.specs.Told.{receipts_told};
@@ -16,6 +17,8 @@ ghost use Rattle.host_run.specs.Serve.{IsLeftBy, OnThreads, Rotating};
 use app_run::{Finished, Regions, lockstep};
 use app_script::{ReadFail, Script, read_script};
 use fsw_base::{Config, Gate, ScriptFault};
+use report_check::check;
+use run_check::Judgement;
 use script_generate::generate;
 use std::alloc::{AllocError, Global};
 use std::marker::Model;
@@ -99,6 +102,15 @@ impl Memory {
         };
         self.refused = read.is_none();
         read
+    }
+
+    /// Whether a text is the report of a run of the script.
+    pub fn verdict(&mut self, script: &Script, report: &[u8]) -> Option<Judgement>
+        ensures answer { IfSome result (λ verdict. IsAnswer script.now report.now verdict) }
+        ensures refused { self.new.refused ≡ is_none result }
+    {
+        let taken = check(self.alloc, script, report);
+        self.note(taken)
     }
 
     /// The generated script of a number.

@@ -5,12 +5,13 @@ ghost use Rattle.app_script.specs.Grammar.{grammar};
 ghost use Rattle.script_generate.specs.Generated.{generated};
 ghost use Rattle.script_printing.specs.ScriptSpelling.{spelled_script};
 ghost use Rattle.host_run.specs.Audit.{GuardedAudit};
-ghost use Rattle.host_run.specs.Serve.{Served, Serves, Runs, MakesNothing, fed_by, made_by, fed_through, made_through, outside, EndsInput, EndsScript, EndsRun, EndsText, EndsRefused, EndsUsage, IsRead, OnThreads, Rotating, Way, part_shown};
+ghost use Rattle.host_run.specs.Serve.{Served, Serves, Runs, MakesNothing, fed_by, made_by, fed_through, made_through, outside, EndsInput, EndsScript, EndsRun, EndsText, EndsUsage, IsRead, OnThreads, Rotating, Way, part_shown};
 ghost use Rattle.host_run.specs.Status.{is_read_fault, is_write_fault};
 ghost use Rattle.host_run.specs.Words.{needs_threads, task_of};
 
 use crate::audit::{Audit, AuditGuard};
-use crate::fault_line::write_fault;
+use crate::checking::check_input;
+use crate::fault_line::{TOO_LARGE, refuse};
 use crate::images::{Head, pack, show_image};
 use crate::memory::Memory;
 use crate::reading::{Reading, read_all};
@@ -20,10 +21,7 @@ use crate::words::{Task, Words};
 use app_run::Finished;
 use app_script::Script;
 use bus_words::ReceiptList;
-use fsw_base::{
-    FaultKind, Gate, MAX_SCRIPT_BYTES, ScriptFault, Sink, SinkGuard, Source, SourceGuard,
-    WriteFault,
-};
+use fsw_base::{Gate, MAX_SCRIPT_BYTES, Sink, SinkGuard, Source, SourceGuard, WriteFault};
 use sb_calls::BusCore;
 use script_printing::print_script;
 use std::alloc::Global;
@@ -32,14 +30,9 @@ use std::thread::Threads;
 use tbl_load::TblCore;
 use text_page::write_text;
 
-// The fault of an input that is longer than any script.
-const TOO_LARGE: ScriptFault = ScriptFault {
-    line: 0,
-    kind: FaultKind::TooLarge,
-};
-
 // Which words the program knows: each of their forms, as `Words::task` reads them.
-const USAGE: &[u8] = b"usage: run | lockstep | gen N | soak N | image | pack NAME OFFSET SUB\n";
+const USAGE: &[u8] =
+    b"usage: run | lockstep | gen N | soak N | check | image | pack NAME OFFSET SUB\n";
 
 // By what applications run on threads: the runtime, and the gate round their lines.
 #[derive(Drop)]
@@ -58,12 +51,14 @@ struct ByThreads<'a, R, G> {
 /// needless 0 before it, at most 4294967295. On `image` it reads a table image to its end, and
 /// writes `name=NAME offset=N size=N sum=N sub=N`. On `pack NAME OFFSET SUB` it reads a table's
 /// bytes, and writes the image of them with this name, of 1 to 39 visible ASCII characters, and
-/// with these numbers, which are spelled like N.
+/// with these numbers, which are spelled like N. On `check` it reads a script, a line `---` and a
+/// report to the end, and writes `legal` where the report is that of a run of the script, else
+/// `illegal:N`, N being the first line up to which it is no run's.
 ///
 /// - `Usage`, on all other words: nothing is read, and the usage line is written.
-/// - `Script`, where the input is no script, or is longer than 1,048,576 bytes; at most one byte
-///   more than that is read. The line of the first fault is written; by the code, no application
-///   ran.
+/// - `Script`, where the input is no script, or is longer than 1,048,576 bytes, on `check` than
+///   33,554,432; at most one byte more than that is read. The line of the first fault is written;
+///   by the code, no application ran.
 /// - `ReadFault`, only where the source's count of faults rose, or stands at its last value:
 ///   nothing is written.
 /// - `WriteFault`, only where the sink's count of faults rose, or stands at its last value: a front
@@ -71,6 +66,8 @@ struct ByThreads<'a, R, G> {
 /// - `NoMemory`, never on other words, and only after a request for memory was refused: nothing is
 ///   written; by the code, no application ran.
 ///
+/// - `MissingPart`, on `check` where no line is `---`; the line `script:0:MissingPart` is written.
+/// - `Illegal`, on `check` where the report is no run's.
 /// - `Image`, on `image` where the input is no table image, and on `pack` where it has no byte; on
 ///   both where it has more than 1,048,576 bytes of a table. The line of the fault is written.
 ///
@@ -202,6 +199,7 @@ fn serve_alone<S: Source, K: Sink, A: Audit>(
         Some(Task::Lockstep) => rotate(memory, source, sink, audit),
         Some(Task::Generate(number)) => write_generated(&mut memory, number, sink),
         Some(Task::Soak(number)) => soak(memory, number, sink, audit),
+        Some(Task::Check) => check_input(&mut memory, source, sink),
         Some(Task::ShowImage) => show_image(&mut memory, source, sink),
         Some(Task::Pack { name, offset, sub }) => {
             let head = Head {
@@ -426,21 +424,6 @@ fn tell_run<K: Sink, A: Audit>(
     audit.closed(bus, tables, sink);
     match write_part(bus, tables, receipts, part, sink) {
         Ok(()) => HostStatus::Done,
-        Err(WriteFault) => HostStatus::WriteFault,
-    }
-}
-
-// Writes what is wrong with the input.
-fn refuse<K: Sink>(sink: &mut SinkGuard<'_, K>, fault: ScriptFault) -> HostStatus
-    requires { sink.old.failed ≡ false }
-    ensures end { (audit : GuardedAudit) →
-        EndsRefused result fault (made_through sink.old audit) (made_through sink.new audit) }
-    ensures failed { sink.new.failed ≡ is_write_fault result }
-    ensures no_read_fault { is_read_fault result ≡ false }
-    ensures same_sink { sink.new.sink ≡ sink.old.sink }
-{
-    match write_fault(sink, fault) {
-        Ok(()) => HostStatus::Script(fault),
         Err(WriteFault) => HostStatus::WriteFault,
     }
 }

@@ -38,6 +38,10 @@ pub(crate) const REPORT: &[u8] = b"fsw 1\nbus\n\
     tpool size=524288 free=524288 requests=0 errors=0\n\
     end\n";
 
+/// What is printed on words that the program doesn't know.
+const USAGE: &[u8] =
+    b"usage: run | lockstep | gen N | soak N | check | image | pack NAME OFFSET SUB\n";
+
 /// How many calls of a source or a sink are made to fail, one in each run.
 const CALLS: u32 = 60;
 
@@ -245,10 +249,7 @@ fn other_words_are_told_the_usage(rt: HostRuntime) -> Result<(), Fail> {
         let mut sink = MemSink::new(rt.alloc(), 100, 1000, &[])?;
         let status = serve_plainly(&rt, rt.alloc(), case, &mut source, &mut sink);
         assert_eq!(rt; status.exit_status(), 2);
-        assert_eq!(rt;
-            sink.written(),
-            b"usage: run | lockstep | gen N | soak N | image | pack NAME OFFSET SUB\n".as_slice()
-        );
+        assert_eq!(rt; sink.written(), USAGE.as_slice());
     }
     Ok(())
 }

@@ -24,6 +24,12 @@ pub enum HostStatus {
     WriteFault,
     /// There was no memory; nothing was written, and, by the code, no application ran.
     NoMemory(MemoryRefusal),
+    /// The input has no line `---` between a script and a report; the line that says so was
+    /// written.
+    MissingPart,
+    /// The report is that of no run of its script; the number, from 1, of the first line up to
+    /// which it isn't was written.
+    Illegal(u32),
     /// The input is no table image, or no table that one can have; the fault was written.
     Image(ImageFault),
 }
@@ -36,10 +42,11 @@ impl HostStatus {
         match self {
             HostStatus::Done => 0,
             HostStatus::Usage => 2,
-            HostStatus::Script(_) => 3,
+            HostStatus::Script(_) | HostStatus::MissingPart => 3,
             HostStatus::ReadFault => 4,
             HostStatus::WriteFault => 5,
             HostStatus::NoMemory(_) => NO_MEMORY,
+            HostStatus::Illegal(_) => 7,
             HostStatus::Image(_) => 8,
         }
     }

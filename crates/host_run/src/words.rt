@@ -26,6 +26,8 @@ pub enum Task {
     Generate(u32),
     /// `soak N`: to run the generated script of this number, and to write the end of its report.
     Soak(u32),
+    /// `check`: to write whether the report that is read is that of a run of the script before it.
+    Check,
     /// `image`: to write what the table image is that is read.
     ShowImage,
     /// `pack NAME OFFSET SUB`: to write the table image of the bytes that are read.
@@ -146,6 +148,8 @@ fn task_alone(word: &[u8]) -> Option<Task>
         Some(Task::Run)
     } else if word == b"lockstep".as_slice() {
         Some(Task::Lockstep)
+    } else if word == b"check".as_slice() {
+        Some(Task::Check)
     } else if word == b"image".as_slice() {
         Some(Task::ShowImage)
     } else {

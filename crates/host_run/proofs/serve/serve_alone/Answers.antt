@@ -1,6 +1,6 @@
 use Rattle.std.proofs.Common.{ℕ, List, refl, sym, subst, ◌∙◌}
 use Rattle.host_run.specs.Serve.{Packs, fed_through, made_through}
-use Rattle.host_run.proofs.Ends.{serves-other, serves-packs, serves-shows, serves-soaks}
+use Rattle.host_run.proofs.Ends.{serves-judges, serves-other, serves-packs, serves-shows, serves-soaks}
 use Rattle.host_run.proofs.serve.serve_alone.Goals as goal
 
 pub returns-in-None-clause-serves : goal.returns-in-None-clause-serves
@@ -11,6 +11,10 @@ pub returns-in-Some-Soak-clause-serves : goal.returns-in-Some-Soak-clause-serves
 returns-in-Some-Soak-clause-serves g c =
     serves-soaks _ c.in-Some-Soak.number c.soak.result _ _ _ _ (cc (c.task.ensures, c.in-Some-Soak.is))
     (record { unread = refl; ends = c.soak.ensures.end })
+
+pub returns-in-Some-Check-clause-serves : goal.returns-in-Some-Check-clause-serves
+returns-in-Some-Check-clause-serves g c =
+    serves-judges _ c.check_input.result _ _ _ _ (cc (c.task.ensures, c.in-Some-Check.is)) (c.check_input.ensures.end c.args.audit.now)
 
 pub returns-in-Some-ShowImage-clause-serves : goal.returns-in-Some-ShowImage-clause-serves
 returns-in-Some-ShowImage-clause-serves g c =
