@@ -8,6 +8,7 @@ use Rattle.fsw_base.specs.declared.statuses.EsStatus.TheVariants.{NoPool}
 use Rattle.fsw_base.specs.Events.{kind_number}
 use Rattle.fsw_base.specs.EventDesk.{Desk}
 use Rattle.fsw_base.specs.EventLog.{Line}
+use Rattle.fsw_base.specs.PoolAccounts.{overhead}
 use Rattle.es_pool.specs.declared.blocks.ClassStats.{ClassStats}
 use Rattle.housekeeping.specs.declared.in_use.InUse.{InUse}
 use Rattle.housekeeping.specs.Counters.{Counts}
@@ -127,11 +128,12 @@ abbrev pub block_code : Option Core → ℕ → ℕ → ℕ
 block_code None pool grant = closed_code
 block_code (Some core) pool grant = option_map_or es_code (unshown core pool grant) 0
 
--- the block is of the grant's block size, and lies within the pool
+-- the block is of the grant's block size, and lies within the pool, behind its overhead
 abbrev pub ShowsBlock : Option Core → ℕ → ℕ → FswPoolBlock → Type 0
 ShowsBlock old pool grant shown =
     (o : Core) → old ≡ Some o →
-    (shown.offset + shown.size ≤ (pool_in o.bus.core.whole.bus.pools pool).bytes)
+    (overhead ≤ shown.offset)
+    × (shown.offset + shown.size ≤ (pool_in o.bus.core.whole.bus.pools pool).bytes)
     × (shown.size ≡
     slice_index (pool_in o.bus.core.whole.bus.pools pool).sizes
     (class_under (pool_in o.bus.core.whole.bus.pools pool).out grant))
