@@ -1,17 +1,19 @@
 //! What the main part learns of a port while no port was joined.
-ghost use Rattle.std.specs.Prelude.{◌≡◌, ℕ, [], Contains};
+ghost use Rattle.std.specs.Prelude.{◌≡◌, []};
 ghost use mathlib.Core.List.{IsPrefix};
 ghost use Rattle.bus_words.specs.Runs.{own_entries};
 ghost use Rattle.bus_service.specs.Ports.{KeepsLongerOf};
 
 use crate::bus::{Bus, BusMain};
 use crate::ports::BusPort;
+use std::sync::Wait;
 
 impl<'r> Bus<'r> {
     /// Has the main part see what a port has seen, while no port was joined. It keeps the longer of
     /// the two histories, which has of the port's application none but the port's own entries. The
-    /// port stays as it was.
-    pub fn meet(&self, main: &mut BusMain, port: &mut BusPort<'r>)
+    /// port stays as it was. If its last look was in vain, it first sleeps until a waiting
+    /// application has news, as [`BusPort::look`] does.
+    pub fn meet<R: Wait>(&self, rt: &R, main: &mut BusMain, port: &mut BusPort<'r>)
         requires main { main.old.lock ≡ self.now }
         requires none { main.old.ended ≡ [] }
         requires port { port.old.lock ≡ self.now }
@@ -23,18 +25,6 @@ impl<'r> Bus<'r> {
             port.old.mine }
         ensures port { port.new ≡ port.old }
     {
-        self.lock.stay_awake(&mut port.seat);
-        self.lock.meet(&mut main.seat, &mut port.seat);
-    }
-}
-
-impl BusMain {
-    /// What the main part has seen has no entries but those of applications whose ports were made.
-    /// Does nothing.
-    pub fn recall_apps(&self)
-        ensures { (app : ℕ) → ¬ (Contains self.now.apps app) →
-            own_entries app self.now.seen.log.entries ≡ [] }
-    {
-        let _ = &self.seat;
+        self.service.meet(rt, main, &mut port.port);
     }
 }
