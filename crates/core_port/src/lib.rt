@@ -8,9 +8,9 @@
 //! # Proved
 //!
 //! For each call of a port the history that it has seen then is the one before, entries of others,
-//! and its own (`Answers`, `AnswersLook`). `join` keeps the longer of two histories. `close`
-//! answers the core, whose history has of each application just the entries of its port, and no
-//! others.
+//! and its own (`Answers`, `AnswersLook`). `join` keeps the longer of two histories, and so does
+//! `meet` while no port was joined, which leaves the port. `close` answers the core, whose history
+//! has of each application just the entries of its port, and no others.
 //!
 //! Not claimed: progress, fairness, order in time between ports that never met.
 #![tactic(auto)]

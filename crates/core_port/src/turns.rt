@@ -14,6 +14,7 @@ use turn_lock::{Seat, Turn};
 
 /// Waits for a turn of the seat. If the application's last look was in vain, it has slept since or
 /// was kept awake.
+#[inline(always)]
 pub(crate) fn begin<K: Kind, C: ServedCore<K> + Drop, R: Wait>(
     service: &Service<K, C>,
     rt: &R,
@@ -35,6 +36,7 @@ pub(crate) fn begin<K: Kind, C: ServedCore<K> + Drop, R: Wait>(
 
 /// Ends a turn in which one call was made, and wakes the sleepers if and only if a waiting
 /// application has news.
+#[inline(always)]
 pub(crate) fn finish<K: Kind, C: ServedCore<K> + Drop>(
     service: &Service<K, C>,
     seat: &mut Seat<Opening, NotedCall<K::Call, K::Answer>>,
