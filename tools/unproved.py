@@ -23,7 +23,7 @@ MOST_INPUT = 2 << 20
 def given_input(words):
     """Standard input to its end, or MOST_INPUT bytes of it; nothing of a terminal, and nothing where
     the program reads none."""
-    reads = words in (["run"], ["lockstep"], ["image"]) or words[:1] == ["pack"]
+    reads = words in (["run"], ["lockstep"], ["bridge"], ["image"]) or words[:1] == ["pack"]
     if not reads or sys.stdin is None or sys.stdin.isatty():
         return b""
     return sys.stdin.buffer.read(MOST_INPUT)

@@ -41,7 +41,7 @@ use Rattle.host_run.specs.declared.status.HostStatus.TheVariants as status
 
 -- the line that tells which words the program knows
 abbrev pub usage_text : List ℕ
-usage_text = codes "usage: run | lockstep | gen N | soak N | image | pack NAME OFFSET SUB\n"
+usage_text = codes "usage: run | lockstep | gen N | soak N | image | pack NAME OFFSET SUB | bridge\n"
 
 -- the line that tells a fault
 abbrev pub fault_text : ScriptFault → List ℕ

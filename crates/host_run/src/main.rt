@@ -4,6 +4,9 @@
 #![tactic(auto)]
 
 mod audit;
+#[cfg(test)]
+mod bridge_tests;
+mod bridging;
 mod fault_line;
 #[cfg(test)]
 mod image_tests;

@@ -15,7 +15,9 @@ ghost use Rattle.host_run.specs.Serve.{IsLeftBy, OnThreads, Rotating};
 
 use app_run::{Finished, Regions, lockstep};
 use app_script::{ReadFail, Script, read_script};
+use bridge_plan::{BridgePlan, PlanFail, PlanFault, read_plan};
 use fsw_base::{Config, Gate, ScriptFault};
+use sb_bridge::{Bridged, run_bridge};
 use script_generate::generate;
 use std::alloc::{AllocError, Global};
 use std::marker::Model;
@@ -101,6 +103,17 @@ impl Memory {
         read
     }
 
+    /// The text as a plan of two buses and a bridge, or what is wrong with it.
+    pub fn plan(&mut self, text: &[u8]) -> Option<Result<BridgePlan, PlanFault>> {
+        let read = match read_plan(self.alloc, text) {
+            Ok(plan) => Some(Ok(plan)),
+            Err(PlanFail::Fault(fault)) => Some(Err(fault)),
+            Err(PlanFail::Memory(_)) => None,
+        };
+        self.refused = read.is_none();
+        read
+    }
+
     /// The generated script of a number.
     pub fn generated_script(&mut self, number: u32) -> Option<Script>
         ensures script { IfSome result (λ script. script ≡ generated number) }
@@ -180,6 +193,29 @@ impl Memory {
     {
         match run_threads(rt, self.alloc, script, regions, gate) {
             Ok(finished) => Ok(finished),
+            Err(AllocError) => {
+                self.refused = true;
+                Err(self.refusal())
+            }
+        }
+    }
+
+    /// The services and the receipts of both sides after a run of the plan: each application on a
+    /// thread of its own, with the gate's calls round each line, and a bridge between the sides. It
+    /// may wait.
+    ///
+    /// # Errors
+    /// If memory was refused; by the code, no application ran then.
+    pub fn run_bridge<'r, R: Threads + Wait + Sync, G: Gate>(
+        mut self,
+        rt: &R,
+        plan: &BridgePlan,
+        one: &'r mut Regions,
+        two: &'r mut Regions,
+        gate: &G,
+    ) -> Result<Bridged<'r>, MemoryRefusal> {
+        match run_bridge(rt, self.alloc, plan, one, two, gate) {
+            Ok(bridged) => Ok(bridged),
             Err(AllocError) => {
                 self.refused = true;
                 Err(self.refusal())

@@ -7,11 +7,13 @@ ghost use Rattle.sb_calls.specs.Core.{state_of};
 ghost use Rattle.tbl_load.specs.Core.{apps_of as table_apps_of};
 ghost use Rattle.host_run.specs.Serve.{part_shown};
 
+use app_run::Finished;
 use bus_words::ReceiptList;
 use fsw_base::{Sink, SinkGuard, WriteFault};
 use run_report::{BusReadings, TableReadings, write_ending, write_report};
 use sb_calls::BusCore;
 use tbl_load::TblCore;
+use text_page::write_text;
 
 /// How much of a report is written.
 #[derive(Clone, Copy, Debug)]
@@ -54,6 +56,34 @@ pub fn write_part<K: Sink>(
         Part::Whole => write_report(&of_bus, &of_tables, receipts, sink),
         Part::Ending => write_ending(&of_bus, &of_tables, sink),
     }
+}
+
+/// Writes the reports of both sides of a bridge, each behind a line with its side. No write through
+/// this guard may have failed before.
+///
+/// # Errors
+/// Those of [`write_part`]: nothing is written after the failed write.
+pub fn write_both<K: Sink>(
+    one: &Finished<'_>,
+    two: &Finished<'_>,
+    sink: &mut SinkGuard<'_, K>,
+) -> Result<(), WriteFault> {
+    write_text(sink, b"side 1\n")?;
+    write_part(
+        &one.bus,
+        &one.tables,
+        one.receipts.as_slice(),
+        Part::Whole,
+        sink,
+    )?;
+    write_text(sink, b"side 2\n")?;
+    write_part(
+        &two.bus,
+        &two.tables,
+        two.receipts.as_slice(),
+        Part::Whole,
+        sink,
+    )
 }
 
 // What a report shows of a bus.

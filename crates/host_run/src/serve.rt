@@ -10,6 +10,7 @@ ghost use Rattle.host_run.specs.Status.{is_read_fault, is_write_fault};
 ghost use Rattle.host_run.specs.Words.{needs_threads, task_of};
 
 use crate::audit::{Audit, AuditGuard};
+use crate::bridging::serve_bridge;
 use crate::fault_line::write_fault;
 use crate::images::{Head, pack, show_image};
 use crate::memory::Memory;
@@ -39,13 +40,16 @@ const TOO_LARGE: ScriptFault = ScriptFault {
 };
 
 // Which words the program knows: each of their forms, as `Words::task` reads them.
-const USAGE: &[u8] = b"usage: run | lockstep | gen N | soak N | image | pack NAME OFFSET SUB\n";
+const USAGE: &[u8] =
+    b"usage: run | lockstep | gen N | soak N | image | pack NAME OFFSET SUB | bridge\n";
 
-// By what applications run on threads: the runtime, and the gate round their lines.
+/// By what applications run on threads.
 #[derive(Drop)]
-struct ByThreads<'a, R, G> {
-    rt: &'a R,
-    gate: &'a G,
+pub(crate) struct ByThreads<'a, R, G> {
+    /// The runtime.
+    pub(crate) rt: &'a R,
+    /// The gate round their lines.
+    pub(crate) gate: &'a G,
 }
 
 /// Does what the words say. On `run` it reads a script from the source to its end, runs each of its
@@ -145,10 +149,10 @@ fn serve_words<R: Threads + Wait + Sync, G: Gate, S: Source, K: Sink, A: Audit>(
     ensures same_sink { sink.new.sink ≡ sink.old.sink }
     ensures same_audit { audit.new.audit ≡ audit.old.audit }
 {
-    if words.need_threads() {
-        serve_on_threads(threads, memory, source, sink, audit)
-    } else {
-        serve_alone(memory, words, source, sink, audit)
+    match words.task() {
+        Some(Task::Run) => serve_on_threads(threads, memory, source, sink, audit),
+        Some(Task::Bridge) => serve_bridge(threads, memory, source, sink, audit),
+        _ => serve_alone(memory, words, source, sink, audit),
     }
 }
 
@@ -212,7 +216,7 @@ fn serve_alone<S: Source, K: Sink, A: Audit>(
             pack(&mut memory, &head, source, sink)
         }
         None => tell_usage(sink),
-        Some(Task::Run) => unreachable!(),
+        Some(Task::Run | Task::Bridge) => unreachable!(),
     }
 }
 

@@ -247,7 +247,7 @@ fn other_words_are_told_the_usage(rt: HostRuntime) -> Result<(), Fail> {
         assert_eq!(rt; status.exit_status(), 2);
         assert_eq!(rt;
             sink.written(),
-            b"usage: run | lockstep | gen N | soak N | image | pack NAME OFFSET SUB\n".as_slice()
+            b"usage: run | lockstep | gen N | soak N | image | pack NAME OFFSET SUB | bridge\n".as_slice()
         );
     }
     Ok(())

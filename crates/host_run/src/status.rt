@@ -3,6 +3,7 @@ ghost use Rattle.std.specs.Prelude.{◌≡◌};
 ghost use Rattle.host_run.specs.Status.{exit_status};
 
 use crate::memory::MemoryRefusal;
+use bridge_plan::PlanFault;
 use fsw_base::ScriptFault;
 use tbl_file::ImageFault;
 
@@ -18,6 +19,8 @@ pub enum HostStatus {
     Usage,
     /// The input is no script that the program runs; the fault was written.
     Script(ScriptFault),
+    /// The input is no plan of two buses and a bridge; the fault was written.
+    Plan(PlanFault),
     /// The source failed before the input's end; nothing was written.
     ReadFault,
     /// The sink failed; what was written is a front of what was due.
@@ -36,7 +39,7 @@ impl HostStatus {
         match self {
             HostStatus::Done => 0,
             HostStatus::Usage => 2,
-            HostStatus::Script(_) => 3,
+            HostStatus::Script(_) | HostStatus::Plan(_) => 3,
             HostStatus::ReadFault => 4,
             HostStatus::WriteFault => 5,
             HostStatus::NoMemory(_) => NO_MEMORY,

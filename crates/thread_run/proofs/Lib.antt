@@ -4,3 +4,4 @@ pub mod FirstTurns
 pub mod Joins
 pub mod Numbers
 pub mod Ways
+pub mod Wholes
