@@ -1,12 +1,17 @@
 //! The bridge, on its thread.
-ghost use Rattle.std.specs.Prelude.{◌≡◌, ℕ, ◌≤◌, ◌&&◌, nat_le, true, false, List, length, Some, is_some, IsTrue};
-ghost use Rattle.bus_words.specs.declared.history.Entry.{Entry};
-ghost use Rattle.bus_words.specs.Bus.{Active, standing_of};
+ghost use Rattle.std.specs.Prelude.{◌≡◌, ℕ, ◌+◌, ◌≤◌, ◌&&◌, nat_le, true, false, List, length, Some, is_some, IsTrue};
+ghost use Rattle.bus_words.specs.declared.history.Call.TheVariants.{Look};
+ghost use Rattle.bus_words.specs.Bus.{Active, Waiting};
+ghost use Rattle.bus_words.specs.Runs.{standing_behind};
+ghost use Rattle.journal_store.specs.Budgets.{allowance_of};
+ghost use Rattle.bus_words.specs.Log.{left_of};
 ghost use Rattle.sb_calls.specs.Bags.{last_message};
 ghost use Rattle.sb_calls.specs.Core.{state_of};
-ghost use Rattle.sb_bridge.specs.Works.{bytes_left, entries_left, MayBridge, MayWait, TakesOne, TimesOut, Sends, KeptBy};
+ghost use Rattle.sb_bridge.specs.Ports.{HasTaken, HasTimedOut, IsAt, IsOwn, LacksRoom, Sends, TakesOne, TimesOut, budget_of};
+ghost use Rattle.sb_bridge.specs.Works.{HasStopped, IsForwarding, IsThrough, MayBridge, EndsAs, MayEnd, is_of};
 
 use bus_service::{Bus, BusDone, BusPort};
+use fsw_base::Budget;
 use sb_calls::Pended;
 use std::sync::Wait;
 use std::thread::Promise;
@@ -40,132 +45,113 @@ pub(crate) struct BridgeDone {
     pub(crate) to: EndedPorts,
 }
 
-/// The bridge's run, as its thread is given it: in one value, which the thread's closure moves
-/// whole.
-#[derive(Drop)]
-pub(crate) struct BridgeJob<'e, 'r> {
+/// A bridge between two buses, and a thread's promise: what it sent is what its pipe gave, each
+/// once and in order.
+#[derive(Clone, Copy)]
+pub(crate) struct Crossing<'e, 'r> {
     /// What runs on side 1.
     pub(crate) one: RunParts<'e, 'r>,
     /// What runs on side 2.
     pub(crate) two: RunParts<'e, 'r>,
     /// The bridge's pipe on side 1.
     pub(crate) pipe: u32,
+    /// How many calls it made there before its first wait.
+    pub(crate) firsts: u32,
+    /// What it may add to the journal of side 2.
+    pub(crate) most: Budget,
+}
+
+impl<'e, 'r> Promise<BridgeDone> for Crossing<'e, 'r> {
+    ghost use Rattle.sb_bridge.specs.Works.{IsThrough};
+
+    ghost kept_by = { IsThrough };
+}
+
+/// The bridge's run, as its thread is given it: in one value, which the thread's closure moves
+/// whole.
+#[derive(Drop)]
+pub(crate) struct BridgeJob<'e, 'r> {
+    /// What it is between.
+    pub(crate) crossing: Crossing<'e, 'r>,
     /// Its ports of side 1.
     pub(crate) from: BridgePorts<'r>,
     /// Its ports of side 2.
     pub(crate) to: BridgePorts<'r>,
 }
 
-/// A thread's promise: what the bridge sent is what its pipe gave, each once and in order.
-#[derive(Clone, Copy)]
-pub(crate) struct BridgeEnds<'e, 'r> {
-    /// What runs on side 1.
-    pub(crate) one: RunParts<'e, 'r>,
-    /// What runs on side 2.
-    pub(crate) two: RunParts<'e, 'r>,
-    /// The bridge's pipe on side 1.
-    pub(crate) pipe: u32,
-}
-
-impl<'e, 'r> BridgeJob<'e, 'r> {
-    /// What its thread promises.
-    pub(crate) fn ends(&self) -> BridgeEnds<'e, 'r>
-        ensures { result ≡
-            record { one = self.now.one; two = self.now.two; pipe = self.now.pipe } }
-    {
-        BridgeEnds {
-            one: self.one,
-            two: self.two,
-            pipe: self.pipe,
-        }
-    }
-}
-
-impl<'e, 'r> Promise<BridgeDone> for BridgeEnds<'e, 'r> {
-    ghost use Rattle.sb_bridge.specs.Works.{KeptBy};
-
-    ghost kept_by = { KeptBy };
-}
-
 /// Runs the bridge to its end, on the thread that calls this: it takes each message from its pipe
 /// and sends it on side 2. At the first time-out it ends on side 1, and then on side 2. It may wait
 /// for others' turns and for messages.
-pub(crate) fn run_one<'e, 'r, R: Wait>(rt: &R, job: BridgeJob<'e, 'r>) -> BridgeDone {
+pub(crate) fn run_one<'e, 'r, R: Wait>(rt: &R, job: BridgeJob<'e, 'r>) -> BridgeDone
+    requires { MayBridge job }
+    ensures { IsThrough job.entry.crossing result }
+{
     let BridgeJob {
-        one,
-        two,
-        pipe,
+        crossing,
         mut from,
         mut to,
     } = job;
     for _ in rt.forever() {
-        let goes_on = has_entries(&from.port)
-            && take_next(rt, one.bus, &mut from.port, pipe)
-            && forward(rt, &from.port, pipe, two.bus, &mut to.port);
-        if !goes_on {
+        if !pass_one(rt, crossing, &mut from.port, &mut to.port) {
             return BridgeDone {
-                from: end_ports(rt, one, from),
-                to: end_ports(rt, two, to),
+                from: end_ports(rt, crossing.one, from),
+                to: end_ports(rt, crossing.two, to),
             };
         }
     }
     unreachable!()
 }
 
-// Ends on a side, at the tables first and then at the bus.
-fn end_ports<'r, R: Wait>(
+// Takes a message, and sends it; false at a time-out.
+fn pass_one<'r, R: Wait>(
     rt: &R,
-    shared: RunParts<'_, 'r>,
-    mut ports: BridgePorts<'r>,
-) -> EndedPorts {
-    ports.tables_port.end(shared.tables, rt);
-    ports.port.end(shared.bus, rt);
-    EndedPorts {
-        port: ports.port.finish(),
-        tables_port: ports.tables_port.finish(),
-    }
-}
-
-// Whether the budget of side 1 has entries for a wait, a look and the end. It has: there are no
-// more messages than the lines of side 1 send. A port can't know that, since it sees what others
-// may add and not what their lines do.
-fn has_entries(from: &BusPort<'_>) -> bool
-    ensures { result ≡ nat_le 3 (entries_left from.now) }
+    crossing: Crossing<'_, 'r>,
+    from: &mut BusPort<'r>,
+    to: &mut BusPort<'r>,
+) -> bool
+    requires { IsForwarding crossing from.old to.old }
+    ensures on { IsTrue result → IsForwarding crossing.entry from.new to.new }
+    ensures stops { result ≡ false → HasStopped crossing.entry from.new to.new }
 {
-    3 <= from.entries_left()
-}
-
-// Whether the budget of side 2 has entries for a send and the end, and the message's bytes. It has,
-// for the same reason.
-fn has_room(to: &BusPort<'_>, message: &[u8]) -> bool
-    ensures { result ≡ (nat_le 2 (entries_left to.now) &&
-        nat_le (length message.now) (bytes_left to.now)) }
-{
-    2 <= to.entries_left() && message.len() <= to.bytes_left() as usize
+    take_next(rt, crossing.one.bus, from, crossing.pipe)
+        && forward(rt, from, crossing.pipe, crossing.two.bus, to)
 }
 
 // Takes the next message from the bridge's pipe, which is then the pipe's last, and waits for it;
 // false at a time-out.
 fn take_next<'r, R: Wait>(rt: &R, bus: &Bus<'r>, from: &mut BusPort<'r>, pipe: u32) -> bool
     requires bus { from.old.lock ≡ bus.now }
-    requires may { MayWait pipe from.old }
-    requires entries { 3 ≤ entries_left from.old }
+    requires at { IsAt pipe from.old }
+    requires active { standing_behind from.old.mine ≡ Active }
+    requires room { length from.old.mine + 2 ≤ (budget_of from.old).entries }
     ensures took { IsTrue result → TakesOne pipe from.old from.new }
     ensures timed_out { result ≡ false → TimesOut pipe from.old from.new }
 {
-    match from.pend(bus, rt, pipe) {
+    let told = from.pend(bus, rt, pipe);
+    // The proof learns that its entries are all that the history has of it.
+    from.recall();
+    match told {
         Ok(Pended::Got(_)) => true,
         Ok(Pended::TimeOut) => false,
-        Ok(Pended::Pending) => look_on(rt, bus, from),
+        Ok(Pended::Pending) => look_on(rt, bus, from, pipe),
         // The pipe is the bridge's own.
         Err(_) => unreachable!(),
     }
 }
 
-// Looks again while the bridge waits.
-fn look_on<'r, R: Wait>(rt: &R, bus: &Bus<'r>, from: &mut BusPort<'r>) -> bool {
+// Looks again while the bridge waits on the pipe.
+fn look_on<'r, R: Wait>(rt: &R, bus: &Bus<'r>, from: &mut BusPort<'r>, _pipe: u32) -> bool
+    requires bus { from.old.lock ≡ bus.now }
+    requires at { IsAt _pipe from.old }
+    requires waiting { standing_behind from.old.mine ≡ Waiting _pipe }
+    requires room { length from.old.mine + 1 ≤ (budget_of from.old).entries }
+    ensures took { IsTrue result → HasTaken _pipe from.old from.new (Look _pipe) }
+    ensures timed_out { result ≡ false → HasTimedOut _pipe from.old from.new (Look _pipe) }
+{
     for _ in rt.forever() {
-        match from.look(bus, rt) {
+        let told = from.look(bus, rt);
+        from.recall();
+        match told {
             Pended::Got(_) => return true,
             Pended::TimeOut => return false,
             Pended::Pending => {}
@@ -185,22 +171,56 @@ fn forward<'r, R: Wait>(
     to: &mut BusPort<'r>,
 ) -> bool
     requires bus { to.old.lock ≡ bus.now }
-    requires active { standing_of (state_of to.old.seen) to.old.app ≡ Active }
+    requires own { IsOwn to.old }
+    requires active { standing_behind to.old.mine ≡ Active }
     requires some { is_some (last_message (state_of from.now.seen) from.now.app pipe) ≡ true }
     ensures sent { IsTrue result → (message : List ℕ) →
         last_message (state_of from.now.seen) from.now.app pipe ≡ Some message →
         Sends message to.old to.new }
-    ensures no_room { result ≡ false → to.new ≡ to.old }
+    ensures no_room { result ≡ false → (message : List ℕ) →
+        last_message (state_of from.now.seen) from.now.app pipe ≡ Some message →
+        LacksRoom message to.old to.new }
 {
     match from.last(pipe) {
-        Some(message) => {
-            let fits = has_room(to, message);
-            if fits {
-                let _ = to.transmit(bus, rt, message, false);
-            }
-            fits
-        }
+        Some(message) => send_on(rt, bus, to, message),
         // A message was taken, and is the last.
         None => unreachable!(),
+    }
+}
+
+// Sends a message on side 2, if the budget has room for it and for the bridge's end. It has: there
+// are no more messages than the lines of side 1 send, and they have no more bytes. A port can't
+// know that, since it sees what others may add and not what their lines do.
+fn send_on<'r, R: Wait>(rt: &R, bus: &Bus<'r>, to: &mut BusPort<'r>, message: &[u8]) -> bool
+    requires bus { to.old.lock ≡ bus.now }
+    requires own { IsOwn to.old }
+    requires active { standing_behind to.old.mine ≡ Active }
+    requires short { length message.now ≤ 65542 }
+    ensures sent { IsTrue result → Sends message.now to.old to.new }
+    ensures no_room { result ≡ false → LacksRoom message.now to.old to.new }
+{
+    let fits = 2 <= to.entries_left() && message.len() <= to.bytes_left() as usize;
+    if fits {
+        let _ = to.transmit(bus, rt, message, false);
+        to.recall();
+    }
+    fits
+}
+
+// Ends on a side, at the tables first and then at the bus.
+fn end_ports<'r, R: Wait>(
+    rt: &R,
+    shared: RunParts<'_, 'r>,
+    mut ports: BridgePorts<'r>,
+) -> EndedPorts
+    requires { MayEnd shared ports }
+    ensures { EndsAs ports.entry result }
+{
+    ports.tables_port.end(shared.tables, rt);
+    ports.port.end(shared.bus, rt);
+    ports.port.recall();
+    EndedPorts {
+        port: ports.port.finish(),
+        tables_port: ports.tables_port.finish(),
     }
 }

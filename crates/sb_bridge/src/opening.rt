@@ -41,9 +41,9 @@ pub(crate) fn begin_bridge<'r, R: Wait>(
     works: &mut Vec<Work<'_, 'r>>,
 ) -> u32 {
     let pipe = subscribe_routes(rt, plan, bus, port);
-    bus.meet(main, port);
+    bus.meet(rt, main, port);
     for i in 0..works.len() {
-        bus.meet(main, &mut works[i].port);
+        bus.meet(rt, main, &mut works[i].port);
     }
     pipe
 }

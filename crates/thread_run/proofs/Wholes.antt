@@ -6,7 +6,7 @@ use Rattle.fsw_base.specs.declared.config.Budget.{Budget}
 use Rattle.script_lines.specs.declared.line.Line.{Line}
 use Rattle.script_lines.specs.declared.line.Line.TheVariants.{Send, Housekeeping}
 use Rattle.script_settings.specs.declared.account.Account.{Account}
-use Rattle.script_settings.specs.Accounts.{no_calls, charge_of, waits_of, buffers_of, sizes_after, counted, account_of, budget_in, budget_of}
+use Rattle.script_settings.specs.Accounts.{no_calls, charge_of, waits_of, buffers_of, sizes_after, with_line, account_of, budget_in, budget_of}
 use Rattle.app_script.specs.Script.{Application, ScriptText, app_at}
 use Rattle.app_run.specs.Openings.{budgets_for}
 use Rattle.app_run.specs.Runners.{Progress, beginning}
@@ -42,33 +42,33 @@ beginning-whole script beside app some known =
 calls_more : ℕ → Account → Account
 calls_more n a = record { calls = a.calls + n; waits = a.waits; bytes = a.bytes; buffers = a.buffers; sizes = a.sizes }
 
-housekeeping_counted : (a : Account) → counted a Housekeeping ≡ record { calls = a.calls + 1; waits = a.waits + 0; bytes = a.bytes + 0; buffers = a.buffers + 0; sizes = a.sizes }
+housekeeping_counted : (a : Account) → with_line a Housekeeping ≡ record { calls = a.calls + 1; waits = a.waits + 0; bytes = a.bytes + 0; buffers = a.buffers + 0; sizes = a.sizes }
 unfolding charge_of waits_of buffers_of sizes_after
 housekeeping_counted a = refl
 
-housekeeping_one : (a : Account) → counted a Housekeeping ≡ calls_more 1 a
+housekeeping_one : (a : Account) → with_line a Housekeeping ≡ calls_more 1 a
 housekeeping_one a =
     let waits : a.waits + 0 ≡ a.waits = omega arith in
     let bytes : a.bytes + 0 ≡ a.bytes = omega arith in
     let buffers : a.buffers + 0 ≡ a.buffers = omega arith in
     housekeeping_counted a ∙ λ i. record { calls = a.calls + 1; waits = waits i; bytes = bytes i; buffers = buffers i; sizes = a.sizes }
 
-housekeeping_all : (n : ℕ) (a : Account) → fold counted a (replicate n Housekeeping) ≡ calls_more n a
+housekeeping_all : (n : ℕ) (a : Account) → fold with_line a (replicate n Housekeeping) ≡ calls_more n a
 housekeeping_all zero a = let calls : a.calls ≡ a.calls + 0 = omega arith in λ i. record { calls = calls i; waits = a.waits; bytes = a.bytes; buffers = a.buffers; sizes = a.sizes }
 housekeeping_all (suc n) a =
     let calls : a.calls + 1 + n ≡ a.calls + suc n = omega arith in
-    ap (λ (x : Account). fold counted x (replicate n Housekeeping)) (housekeeping_one a)
+    ap (λ (x : Account). fold with_line x (replicate n Housekeeping)) (housekeeping_one a)
     ∙ housekeeping_all n (calls_more 1 a)
     ∙ λ i. record { calls = calls i; waits = a.waits; bytes = a.bytes; buffers = a.buffers; sizes = a.sizes }
 
 bytes_sent : ℕ → Account
 bytes_sent bytes = record { calls = 0 + 1; waits = 0 + 0; bytes = 0 + bytes; buffers = 0 + 0; sizes = replicate 64 0 }
 
-send_counted : (bytes : ℕ) → counted no_calls (Send 0 bytes 0 false) ≡ bytes_sent bytes
+send_counted : (bytes : ℕ) → with_line no_calls (Send 0 bytes 0 false) ≡ bytes_sent bytes
 unfolding charge_of waits_of buffers_of sizes_after
 send_counted bytes = refl
 
-budget_account : (lines : List Line) → budget_of lines ≡ budget_in (fold counted no_calls lines)
+budget_account : (lines : List Line) → budget_of lines ≡ budget_in (fold with_line no_calls lines)
 unfolding budget_of account_of
 budget_account lines = refl
 
@@ -82,7 +82,7 @@ budget_lines (suc (suc n)) bytes some few =
     let all : 0 + 1 + n + (0 + 0) + 1 ≡ suc (suc n) = omega arith in
     let theirs : 0 + bytes ≡ bytes = omega arith in
     budget_account (Send 0 bytes 0 false ∷ replicate n Housekeeping)
-    ∙ ap (λ (a : Account). budget_in (fold counted a (replicate n Housekeeping))) (send_counted bytes)
+    ∙ ap (λ (a : Account). budget_in (fold with_line a (replicate n Housekeeping))) (send_counted bytes)
     ∙ ap budget_in (housekeeping_all n (bytes_sent bytes))
     ∙ λ i. budget_with (all i) (theirs i)
 
