@@ -76,14 +76,14 @@ module _ {E : Type 0} (own : ℕ → List E → List E) (P : ℕ → Done → Ty
 
 -- Joins. --
 
-begins-trans : (one two three : Core) → Begins one two → Begins two three → Begins one three
+pub begins-trans : (one two three : Core) → Begins one two → Begins two three → Begins one three
 begins-trans one two three first then = record {
   entries = prefix_trans one.log.entries two.log.entries three.log.entries first.entries then.entries;
   notes = prefix_trans one.notes two.notes three.notes first.notes then.notes;
 }
 
 -- both begin the longer one, whose limits and budgets are the first one's
-begins-longer : (one other kept : Core) → KeepsLongerOf one other kept → Begins one kept × Begins other kept
+pub begins-longer : (one other kept : Core) → KeepsLongerOf one other kept → Begins one kept × Begins other kept
 begins-longer one other kept (inl longer) =
     subst (λ core. Begins one core × Begins other core) (sym longer.1)
     (record { entries = longer.0.entries; notes = longer.0.notes }, record { entries = prefix_self other.log.entries; notes = prefix_self other.notes })

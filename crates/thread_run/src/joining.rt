@@ -2,6 +2,7 @@
 ghost use Rattle.std.specs.Prelude.{◌≡◌, ◌≤◌, ◌++◌, [], length, map, vec_capacity};
 ghost use Rattle.std.specs.List.{range_with_len};
 ghost use Rattle.app_run.specs.Runners.{histories_of};
+ghost use Rattle.bus_service.specs.Ports.{Begins};
 ghost use Rattle.sb_calls.specs.Core.{apps_of};
 ghost use Rattle.script_runs.specs.Runs.{IsRunOf};
 ghost use Rattle.script_runs.specs.Told.{receipts_told};
@@ -88,6 +89,7 @@ pub fn join_all<'r>(
         bus_main.new }
     ensures tables { AreJoined (whole shared.entry) shared.entry.tables.now dones.old.items
         tables_main.new }
+    ensures seen { Begins bus_main.old.seen bus_main.new.seen }
     ensures receipts { map (λ list. list.receipts) receipts.new.items ≡
         map (λ done. done.receipts.receipts) dones.old.items }
     ensures count { length receipts.new.items ≡ length dones.old.items }

@@ -50,6 +50,7 @@
 
 mod joining;
 mod lists;
+mod meeting;
 mod opening;
 mod run;
 mod starting;
@@ -57,6 +58,7 @@ mod starts;
 mod works;
 
 pub use joining::join_all;
+pub use meeting::meet_works;
 pub use opening::{OpenServices, open_services, open_works};
 pub use run::run_threads;
 pub use starting::{Lists, begin_all, end_all};

@@ -29,6 +29,7 @@ pub(crate) fn take_last<'s, 'r>(
         _shared.entry.tables.now) 1 works.new.items) }
     ensures none { IfNone result (length works.old.items ≡ 0) }
     ensures left { IfNone result (works.new.items ≡ []) }
+    ensures room { vec_capacity works.new ≡ vec_capacity works.old }
 {
     works.pop()
 }

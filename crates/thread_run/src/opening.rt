@@ -96,6 +96,7 @@ pub fn open_works<'e, 'r>(
         shared.entry.tables.now) 1 works.items) }
     ensures all { IfOk result
         (λ works. length works.items ≡ length shared.entry.script.now.apps) }
+    ensures room { IfOk result (λ works. length works.items ≤ vec_capacity works) }
 {
     let apps = shared.script.apps();
     let mut works = Vec::with_capacity(alloc, apps as usize)?;
@@ -170,8 +171,8 @@ fn open_one<'e, 'r>(
     })
 }
 
-// Puts an application behind those of smaller numbers.
-fn note_work<'e, 'r>(works: &mut Vec<Work<'e, 'r>>, _shared: RunParts<'_, 'r>, work: Work<'e, 'r>)
+/// Puts an application behind those of smaller numbers.
+pub(crate) fn note_work<'e, 'r>(works: &mut Vec<Work<'e, 'r>>, _shared: RunParts<'_, 'r>, work: Work<'e, 'r>)
     requires room { length works.old.items + 1 ≤ vec_capacity works.old }
     requires works { Numbered (MayWork (whole _shared) _shared.bus.now _shared.tables.now) 1
         works.old.items }

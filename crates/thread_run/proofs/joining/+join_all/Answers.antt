@@ -1,6 +1,6 @@
 use Rattle.std.proofs.Common.{sym, subst}
 use Rattle.thread_run.specs.Whole.{whole}
-use Rattle.thread_run.proofs.Joins.{joined-one, joined-one_at_tables}
+use Rattle.thread_run.proofs.Joins.{begins-longer, begins-trans, joined-one, joined-one_at_tables}
 use Rattle.thread_run.specs.Mains.{IsJoined, AreJoined}
 use Rattle.thread_run.proofs.joining.+join_all.Goals as goal
 
@@ -9,6 +9,11 @@ returns-clause-bus t c =
     subst (λ ds. IsJoined (whole c.args.shared) c.args.shared.bus.now ds c.join.new.main) (sym c.in-Some.ensures.items)
     (joined-one (whole c.args.shared) c.args.shared.bus.now c.take_last_done.new.dones.items c.in-Some.done c.join_all.new.bus_main c.join.new.main
     c.join_all.ensures.bus c.join.ensures.lock c.join.ensures.seen c.join.ensures.apps c.join.ensures.ended)
+
+pub returns-clause-seen : goal.returns-clause-seen
+returns-clause-seen t c =
+    begins-trans c.args.bus_main.now.seen c.join_all.new.bus_main.seen c.join.new.main.seen c.join_all.ensures.seen
+    (begins-longer c.join_all.new.bus_main.seen c.in-Some.done.port.seen c.join.new.main.seen c.join.ensures.seen).0
 
 pub returns-clause-tables : goal.returns-clause-tables
 returns-clause-tables t c =
