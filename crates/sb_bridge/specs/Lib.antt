@@ -1,3 +1,5 @@
 pub mod Calls
 pub mod Ports
 pub mod Works
+pub mod Openings
+pub mod Sides
