@@ -165,7 +165,7 @@ module _ (old new : PortView) (call : Call) (answer : BusAnswer) (own : IsOwn ol
     owned_still leaves =
         let limits = old.seen.limits in
         let apps = apps_of old.seen in
-        ap (owns (state_of new.seen).pipes) made.app
+        ap (λ n. owns (state_of new.seen).pipes n p) made.app
         ∙ ap (λ (core : Core). owns (state_of core).pipes old.app p) core_is
         ∙ ap (λ (t : State). owns t.pipes old.app p) (state_further limits [] (opening limits apps) front (entry ∷ []))
         ∙ leaves limits front (state_after limits apps front)
@@ -269,7 +269,7 @@ looked-in-vain p first old new mine was made recalled =
           mine = recalled;
         };
         owned =
-            ap (owns (state_of new.seen).pipes) made.app
+            ap (λ n. owns (state_of new.seen).pipes n p) made.app
             ∙ ap (λ (c : Core). owns (state_of c).pipes old.app p) core
             ∙ owned_others limits apps old.app p old.seen.log.entries made.others.entries own.legal legal made.others.by_others
             ∙ was.at.owned;

@@ -64,10 +64,10 @@ module _ (crossing : Crossing) (from to : PortView) (was : IsForwarding crossing
     pub goes-on : (sent : PortView) → Sends took.message to sent → IsForwarding crossing now sent
     goes-on sent sends =
         let calls : calls_in sent.mine ≡ sends_of (given_in from.seen p ++ took.message ∷ []) =
-            ap calls_in sends.mine
-            ∙ map-append (λ (e : Entry). e.call) to.mine (record { app = to.app; call = Transmit took.message false; answer = sends.answer } ∷ [])
-            ∙ ap (λ (cs : List Call). cs ++ Transmit took.message false ∷ []) was.sent.sent
-            ∙ sym (map-append (λ (message : List ℕ). Transmit message false) (given_in from.seen p) (took.message ∷ [])) in
+        ap calls_in sends.mine
+        ∙ map-append (λ (e : Entry). e.call) to.mine (record { app = to.app; call = Transmit took.message false; answer = sends.answer } ∷ [])
+        ∙ ap (λ (cs : List Call). cs ++ Transmit took.message false ∷ []) was.sent.sent
+        ∙ sym (map-append (λ (message : List ℕ). Transmit message false) (given_in from.seen p) (took.message ∷ [])) in
         record {
           first = was.first;
           waits = was.waits ++ took.entries;
@@ -94,11 +94,11 @@ module _ (crossing : Crossing) (from to : PortView) (was : IsForwarding crossing
       spare = omega (arith, few-on, one_given, was.sent.fits);
       sent = subst (λ (port : PortView). HasSent crossing port (given_in from.seen p)) (sym lacks.unchanged) was.sent;
       how = inr (
-        ⊎_elim
-        (λ few. inl (omega (arith, few, ap (λ (b : Budget). b.entries) was.sent.room, many, one_given)))
-        (λ long. inr (omega (arith, long, ap (λ (b : Budget). b.bytes) was.sent.room, ap bytes_in was.sent.sent, bytes_sent (given_in from.seen p), ap bytes_of took.given, bytes_more (given_in from.seen p) took.message)))
-        lacks.lacks
-      );
+          ⊎_elim
+          (λ few. inl (omega (arith, few, ap (λ (b : Budget). b.entries) was.sent.room, many, one_given)))
+          (λ long. inr (omega (arith, long, ap (λ (b : Budget). b.bytes) was.sent.room, ap bytes_in was.sent.sent, bytes_sent (given_in from.seen p), ap bytes_of took.given, bytes_more (given_in from.seen p) took.message)))
+          lacks.lacks
+          );
     }
 
   -- the wait timed out

@@ -2,4 +2,7 @@ pub mod OwnPipe
 pub mod OwnBudget
 pub mod Asked
 pub mod Waits
+pub mod FirstCalls
+pub mod Beginnings
 pub mod Forwarding
+mod Threads

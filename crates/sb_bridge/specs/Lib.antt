@@ -3,3 +3,4 @@ pub mod Ports
 pub mod Works
 pub mod Openings
 pub mod Sides
+pub mod Left

@@ -1,9 +1,11 @@
 -- The bridge's ports before its first call, and behind its first calls on side 1.
-use Rattle.std.specs.Prelude.{◌≡◌, ℕ, ◌+◌, ◌≤◌, true, List, [], ◌∷◌, ◌++◌, length, map, Result, Ok, Err, Some}
+use Rattle.std.specs.Prelude.{◌≡◌, ◌⊎◌, ℕ, true, List, [], ◌++◌, map, codes}
 use Rattle.fsw_base.specs.declared.config.Scope.TheVariants.{Global}
 use Rattle.fsw_base.specs.declared.statuses.SbStatus.{SbStatus}
+use Rattle.bus_words.specs.declared.calls.BusAnswer.{BusAnswer}
+use Rattle.bus_words.specs.declared.calls.BusAnswer.TheVariants.{Number, Sb}
 use Rattle.bus_words.specs.declared.history.Call.{Call}
-use Rattle.bus_words.specs.declared.history.Call.TheVariants.{Subscribe}
+use Rattle.bus_words.specs.declared.history.Call.TheVariants.{Create, Subscribe}
 use Rattle.bus_words.specs.declared.history.Entry.{Entry}
 use Rattle.bus_words.specs.Bus.{Active, owns}
 use Rattle.bus_words.specs.Runs.{callers, standing_behind}
@@ -14,11 +16,10 @@ use Rattle.thread_run.specs.declared.works.RunParts.{RunParts}
 use Rattle.thread_run.specs.Whole.{whole}
 use Rattle.bridge_plan.specs.declared.routes.Route.{Route}
 use Rattle.bridge_plan.specs.Plan.{PlanText, bridge_of}
-use Rattle.bridge_plan.specs.Sends.{budget_on_one_of}
 use Rattle.bridge_runs.specs.Bridge.{MakesPipe, first_calls}
 use Rattle.sb_bridge.specs.declared.bridge.BridgePorts.{BridgePorts}
 use Rattle.sb_bridge.specs.Calls.{calls_in}
-use Rattle.sb_bridge.specs.Ports.{IsAt, IsOwn, IsSame, budget_of, given_in}
+use Rattle.sb_bridge.specs.Ports.{IsAt, IsOwn, IsSame, given_in, one_more}
 use Rattle.sb_bridge.specs.Works.{IsBridges}
 
 -- the bridge's ports of a side, which made no call and saw none
@@ -34,6 +35,16 @@ pub record AreNew (shared : RunParts) (ports : BridgePorts) : Type 0 where
 -- the calls that subscribe pipe p to routes, in order
 abbrev pub subscriptions : ℕ → List Route → List Call
 subscriptions p routes = map (λ route. Subscribe route.id p route.limit Global) routes
+
+-- Its application created the bridge's pipe, of this number, or was refused.
+pub record HasCreated (plan : PlanText) (p : ℕ) (old new : PortView) : Type 0 where
+  pub same : IsSame old new
+  pub own : IsOwn new
+  pub active : standing_behind new.mine ≡ Active
+  pub answer : BusAnswer
+  pub mine : new.mine ≡ one_more old (Create plan.one.limits.depth (codes "BRIDGE")) answer
+  pub told : (answer ≡ Number p) ⊎ ((status : SbStatus) × (answer ≡ Sb status))
+  pub owned : answer ≡ Number p → owns (state_of new.seen).pipes new.app p ≡ true
 
 -- The port made these calls more, and nobody is told of another; its application has the pipes that
 -- it had.

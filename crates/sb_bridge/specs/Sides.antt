@@ -1,7 +1,9 @@
 -- A side of the bridge: its applications and the bridge's ports, from before their first calls to
 -- the end.
-use Rattle.std.specs.Prelude.{◌≡◌, ℕ, ◌+◌, ◌≤◌, List, [], ◌∷◌, length, map, vec_capacity}
+use Rattle.std.specs.Prelude.{◌≡◌, ℕ, ◌+◌, ◌≤◌, ◌==◌, Some, if◌then◌else◌, List, [], ◌∷◌, length, map, vec_capacity}
 use Rattle.std.specs.List.{range_with_len}
+use Rattle.atomic_table.specs.Seated.{TableId}
+use Rattle.fsw_base.specs.declared.config.Budget.{Budget}
 use Rattle.app_script.specs.Script.{ScriptText}
 use Rattle.script_runs.specs.Histories.{Histories}
 use Rattle.script_runs.specs.TableTrace.{own_table_entries}
@@ -14,15 +16,17 @@ use Rattle.tbl_load.specs.Core.{apps_of as table_apps_of}
 use Rattle.app_run.specs.declared.rotating.Finished.{Finished}
 use Rattle.app_run.specs.Runners.{histories_of}
 use Rattle.thread_run.specs.declared.works.RunParts.{RunParts}
-use Rattle.thread_run.specs.Kept.{HaveRoomFor}
+use Rattle.thread_run.specs.Kept.{HaveRoomFor, IsBegun}
 use Rattle.thread_run.specs.Mains.{AreJoined, IsJoined}
 use Rattle.thread_run.specs.Whole.{whole, whole_of}
 use Rattle.thread_run.specs.Works.{IsDone, MayWork, Numbered}
-use Rattle.bridge_plan.specs.Plan.{bridge_of}
+use Rattle.bridge_plan.specs.Plan.{PlanText, bridge_of, script_of}
+use Rattle.bridge_plan.specs.Sends.{budget_on_one_of, budget_on_two_of}
 use Rattle.bridge_runs.specs.Sides.{AreLegal, MergesBeside}
 use Rattle.sb_bridge.specs.declared.bridge.EndedPorts.{EndedPorts}
-use Rattle.sb_bridge.specs.declared.run.EndedSide.{EndedSide}
-use Rattle.sb_bridge.specs.declared.run.ScriptSide.{ScriptSide}
+use Rattle.sb_bridge.specs.declared.crews.ScriptSide.{ScriptSide}
+use Rattle.sb_bridge.specs.declared.threads.BegunSide.{BegunSide}
+use Rattle.sb_bridge.specs.declared.threads.DoneSide.{DoneSide}
 
 -- a side has one application more than its script
 abbrev pub HasBridge : RunParts → Type 0
@@ -37,20 +41,47 @@ pub record MayBegin (side : ScriptSide) : Type 0 where
   pub no_receipts : side.receipts.items ≡ []
   pub receipts_room : length side.works.items ≤ vec_capacity side.receipts
 
--- the bridge's ports are finished, and of this side
-pub record AreEnded (shared : RunParts) (ports : EndedPorts) : Type 0 where
-  pub lock : ports.port.lock ≡ shared.bus.now
-  pub app : ports.port.app ≡ bridge_of shared.script.now
-  pub tables_lock : ports.tables_port.lock ≡ shared.tables.now
-  pub tables_app : ports.tables_port.app ≡ bridge_of shared.script.now
+-- all of a side's applications were begun, and there is room for what becomes of them
+pub record IsBegunSide (side : ScriptSide) (begun : BegunSide) : Type 0 where
+  pub shared : begun.shared ≡ side.shared
+  pub each : Numbered (IsBegun (whole side.shared) side.shared.bus.now side.shared.tables.now) 1
+      begun.begun.items
+  pub all : length begun.begun.items ≡ length side.shared.script.now.apps
+  pub none : begun.dones.items ≡ []
+  pub room : length begun.begun.items ≤ vec_capacity begun.dones
+  pub no_receipts : begun.receipts.items ≡ []
+  pub receipts_room : length begun.begun.items ≤ vec_capacity begun.receipts
 
--- all of a side's applications are through
-pub record IsEndedSide (shared : RunParts) (side : EndedSide) : Type 0 where
-  pub dones : Numbered (IsDone (whole shared) shared.bus.now shared.tables.now) 1 side.dones.items
-  pub all : length side.dones.items ≡ length shared.script.now.apps
-  pub no_receipts : side.receipts.items ≡ []
-  pub receipts_room : length side.dones.items ≤ vec_capacity side.receipts
-  pub ports : AreEnded shared side.ports
+-- all of a side's applications are through: of this script, which with the bridge is the whole one,
+-- and of these services
+pub record AreThrough (script with_bridge : ScriptText) (bus tables : TableId)
+    (done : DoneSide) : Type 0 where
+  pub each : Numbered (IsDone with_bridge bus tables) 1 done.dones.items
+  pub all : length done.dones.items ≡ length script.apps
+  pub no_receipts : done.receipts.items ≡ []
+  pub receipts_room : length done.dones.items ≤ vec_capacity done.receipts
+
+-- those of this side
+abbrev pub IsDoneSide : ScriptSide → DoneSide → Type 0
+IsDoneSide side done =
+    AreThrough side.shared.script.now (whole side.shared) side.shared.bus.now
+    side.shared.tables.now done
+
+-- the bridge's ports are finished, and of these services
+pub record AreEnded (script : ScriptText) (bus tables : TableId)
+    (ports : EndedPorts) : Type 0 where
+  pub lock : ports.port.lock ≡ bus
+  pub app : ports.port.app ≡ bridge_of script
+  pub tables_lock : ports.tables_port.lock ≡ tables
+  pub tables_app : ports.tables_port.app ≡ bridge_of script
+
+-- what the bridge may add on a side
+abbrev pub budget_on : PlanText → ℕ → Budget
+budget_on plan side = if side == 1 then budget_on_one_of plan else budget_on_two_of plan
+
+-- the script of a side, with the bridge as one application more
+abbrev pub whole_on : PlanText → ℕ → ScriptText
+whole_on plan side = whole_of (script_of plan side) (Some (budget_on plan side))
 
 -- What a side leaves once its services were closed: histories that they can have, which merge the
 -- applications' calls and have of the bridge just the entries of its ports; they extend what the

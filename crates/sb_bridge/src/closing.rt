@@ -1,15 +1,15 @@
 //! A side's applications and the bridge there, once they are through.
-ghost use Rattle.std.specs.Prelude.{◌≡◌, [], length};
+ghost use Rattle.std.specs.Prelude.{◌≡◌, ◌⊎◌, []};
 ghost use Rattle.thread_run.specs.Mains.{AreJoined, IsJoined};
-ghost use Rattle.thread_run.specs.Whole.{whole};
-ghost use Rattle.sb_bridge.specs.Sides.{HasBridge, IsClosedSide, IsEndedSide};
+ghost use Rattle.bridge_plan.specs.Plan.{script_of};
+ghost use Rattle.sb_bridge.specs.Sides.{AreEnded, AreThrough, IsClosedSide, whole_on};
 
 use crate::bridge::EndedPorts;
+use crate::run::parts_of;
+use crate::threads::DoneSide;
 use app_run::Finished;
-use bus_service::{Bus, BusMain};
-use bus_words::ReceiptList;
-use tbl_service::{Tables, TblMain};
-use thread_run::{Done, OpenServices, RunParts, join_all};
+use bridge_plan::BridgePlan;
+use thread_run::{OpenServices, join_all};
 
 /// Joins what is left of a side's applications and then of the bridge there, and closes both
 /// services.

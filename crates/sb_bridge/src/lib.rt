@@ -24,8 +24,11 @@
 #![tactic(auto)]
 
 mod bridge;
+mod closing;
+mod crews;
 mod gates;
 mod opening;
 mod run;
+mod threads;
 
 pub use run::{Bridged, run_bridge};

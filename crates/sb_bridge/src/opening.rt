@@ -7,7 +7,7 @@ ghost use Rattle.bridge_plan.specs.Sends.{budget_on_one_of};
 ghost use Rattle.thread_run.specs.Mains.{IsOpen, AreOpen, IsJoined};
 ghost use Rattle.thread_run.specs.Whole.{whole};
 ghost use Rattle.thread_run.specs.Works.{MayWork, Numbered};
-ghost use Rattle.sb_bridge.specs.Openings.{AreNew, HasCalled, IsFirst, subscriptions};
+ghost use Rattle.sb_bridge.specs.Openings.{AreNew, HasCalled, HasCreated, IsFirst, subscriptions};
 ghost use Rattle.sb_bridge.specs.Ports.{IsOwn, budget_of};
 
 use crate::bridge::BridgePorts;
@@ -87,12 +87,7 @@ pub(crate) fn begin_bridge<'e, 'r, R: Wait>(
 
 // Creates the bridge's pipe, as deep as the configuration allows. It is the first on its bus, so
 // the call is accepted; that nobody called before is known once the main part saw it.
-fn make_pipe<'r, R: Wait>(
-    rt: &R,
-    plan: &BridgePlan,
-    bus: &Bus<'r>,
-    port: &mut BusPort<'r>,
-) -> u32 {
+fn make_pipe<'r, R: Wait>(rt: &R, plan: &BridgePlan, bus: &Bus<'r>, port: &mut BusPort<'r>) -> u32 {
     let depth = plan.script(1).config().depth;
     let made = port.create_pipe(bus, rt, depth, BRIDGE);
     port.recall();

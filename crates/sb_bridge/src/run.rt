@@ -1,37 +1,29 @@
 //! Both sides and the bridge, each application on a thread of its own.
-ghost use Rattle.std.specs.Prelude.{◌≡◌, ◌⊎◌, ◌+◌, [], length, map, IfOk, Some};
+ghost use Rattle.std.specs.Prelude.{◌≡◌, ◌⊎◌, length, map, IfOk, Some};
 ghost use Rattle.std.specs.List.{range_with_len};
 ghost use Rattle.app_run.specs.Openings.{HaveRoom};
 ghost use Rattle.app_run.specs.Runners.{histories_of};
-ghost use Rattle.bridge_plan.specs.Plan.{bridge_of, script_of};
-ghost use Rattle.bridge_plan.specs.Sends.{budget_on_one_of, budget_on_two_of};
+ghost use Rattle.bridge_plan.specs.Plan.{script_of};
 ghost use Rattle.bridge_runs.specs.Bridged.{IsBridged};
 ghost use Rattle.script_runs.specs.Told.{receipts_told};
-ghost use Rattle.thread_run.specs.Kept.{IsBegun};
-ghost use Rattle.thread_run.specs.Mains.{AreJoined, AreOpen, IsJoined, IsOpen};
-ghost use Rattle.thread_run.specs.Whole.{whole, whole_of};
-ghost use Rattle.thread_run.specs.Works.{Numbered};
-ghost use Rattle.sb_bridge.specs.Openings.{AreNew};
-ghost use Rattle.sb_bridge.specs.Sides.{AreEnded, HasBridge, IsClosedSide, IsEndedSide, MayBegin};
-ghost use Rattle.sb_bridge.specs.Works.{IsThrough, MayBridge};
+ghost use Rattle.thread_run.specs.Mains.{AreOpen, IsOpen};
+ghost use Rattle.sb_bridge.specs.Left.{Leaves};
+ghost use Rattle.sb_bridge.specs.Sides.{budget_on, whole_on};
 
-use crate::bridge::{BridgeDone, BridgeJob, BridgePorts, Crossing, EndedPorts, run_one};
-use crate::gates::GateOfTwo;
-use crate::opening::{begin_bridge, open_ports};
+use crate::bridge::{BridgeJob, Crossing};
+use crate::closing::close_side;
+use crate::crews::crew_of;
+use crate::opening::begin_bridge;
+use crate::threads::run_all;
 use app_run::{Finished, Regions};
 use bridge_plan::BridgePlan;
-use bus_service::BusMain;
-use bus_words::ReceiptList;
-use fsw_base::{AppNo, Gate};
+use bus_service::Bus;
+use fsw_base::{Budget, Gate};
 use std::alloc::{AllocError, Global};
 use std::sync::Wait;
-use std::thread;
-use std::thread::{Scope, Threads};
-use tbl_service::TblMain;
-use thread_run::{
-    AllStarted, Begun, Done, Ends, Lists, OpenServices, RunParts, Work, begin_all, end_all,
-    join_all, open_services, open_works, start_one,
-};
+use std::thread::Threads;
+use tbl_service::Tables;
+use thread_run::{OpenServices, RunParts, open_services};
 
 /// What a run of two buses and a bridge leaves: on each side what a run of its script leaves, with
 /// the bridge's entries in its histories. The receipts are those of the script's applications.
@@ -81,18 +73,8 @@ pub fn run_bridge<'r, R: Threads + Wait + Sync, G: Gate>(
         map (receipts_told plan.now.two (histories_of left.two.bus left.two.tables))
         (range_with_len 1 (length plan.now.two.apps))) }
 {
-    let first = open_services(
-        alloc,
-        plan.script(1),
-        Some(plan.budget_on_one()),
-        one,
-    )?;
-    let second = open_services(
-        alloc,
-        plan.script(2),
-        Some(plan.budget_on_two()),
-        two,
-    )?;
+    let first = open_services(alloc, plan.script(1), Some(plan.budget_on_one()), one)?;
+    let second = open_services(alloc, plan.script(2), Some(plan.budget_on_two()), two)?;
     run_open(rt, alloc, plan, gate, first, second)
 }
 
@@ -105,13 +87,13 @@ fn run_open<'r, R: Threads + Wait + Sync, G: Gate>(
     mut first: OpenServices<'r>,
     mut second: OpenServices<'r>,
 ) -> Result<Bridged<'r>, AllocError>
-    requires bus_one { IsOpen (whole_of plan.now.one (Some (budget_on_one_of plan.now)))
+    requires bus_one { IsOpen (whole_on plan.now 1)
         first.bus 0 first.bus_main }
-    requires tables_one { AreOpen (whole_of plan.now.one (Some (budget_on_one_of plan.now)))
+    requires tables_one { AreOpen (whole_on plan.now 1)
         first.tables 0 first.tables_main }
-    requires bus_two { IsOpen (whole_of plan.now.two (Some (budget_on_two_of plan.now)))
+    requires bus_two { IsOpen (whole_on plan.now 2)
         second.bus 0 second.bus_main }
-    requires tables_two { AreOpen (whole_of plan.now.two (Some (budget_on_two_of plan.now)))
+    requires tables_two { AreOpen (whole_on plan.now 2)
         second.tables 0 second.tables_main }
     ensures { IfOk result (λ left. Leaves plan.now left) }
 {
@@ -147,15 +129,20 @@ fn run_open<'r, R: Threads + Wait + Sync, G: Gate>(
         firsts: plan.routes() + 1,
         most: plan.budget_on_two(),
     };
-    let (ended_one, ended_two) = run_all(rt, gate, crossing, crew_one, crew_two);
+    let bridge = BridgeJob {
+        crossing,
+        from: crew_one.ports,
+        to: crew_two.ports,
+    };
+    let ended = run_all(rt, gate, bridge, crew_one.side, crew_two.side);
     Ok(Bridged {
-        one: close_side(plan, 1, first, ended_one),
-        two: close_side(plan, 2, second, ended_two),
+        one: close_side(plan, 1, first, ended.one, ended.bridge.from),
+        two: close_side(plan, 2, second, ended.two, ended.bridge.to),
     })
 }
 
-// What the applications of a side share.
-fn parts_of<'e, 'r>(
+/// What the applications of a side share.
+pub(crate) fn parts_of<'e, 'r>(
     plan: &'e BridgePlan,
     side: u32,
     bus: &'e Bus<'r>,

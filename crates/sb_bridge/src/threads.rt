@@ -1,23 +1,17 @@
 //! The applications of both sides and the bridge, each on its thread.
-ghost use Rattle.std.specs.Prelude.{◌≡◌, [], length};
-ghost use Rattle.thread_run.specs.Kept.{IsBegun};
-ghost use Rattle.thread_run.specs.Whole.{whole};
-ghost use Rattle.thread_run.specs.Works.{Numbered};
-ghost use Rattle.sb_bridge.specs.Sides.{HasEnded, IsBegunSide, IsDoneSide, MayBegin};
+ghost use Rattle.sb_bridge.specs.Sides.{IsBegunSide, IsDoneSide, MayBegin};
+ghost use Rattle.sb_bridge.specs.declared.crews.ScriptSide.{ScriptSide};
 ghost use Rattle.sb_bridge.specs.Works.{IsThrough, MayBridge};
 
-use crate::bridge::{BridgeDone, BridgeJob, Crossing, EndedPorts, run_one};
-use crate::closing::EndedSide;
-use crate::crews::{Crew, ScriptSide};
+use crate::bridge::{BridgeDone, BridgeJob, run_one};
+use crate::crews::ScriptSide;
 use crate::gates::GateOfTwo;
 use bus_words::ReceiptList;
 use fsw_base::Gate;
 use std::sync::Wait;
 use std::thread;
 use std::thread::{Scope, Threads};
-use thread_run::{
-    AllStarted, Begun, Done, Ends, Lists, RunParts, begin_all, end_all, start_one,
-};
+use thread_run::{AllStarted, Begun, Done, Ends, Lists, RunParts, begin_all, end_all, start_one};
 
 // All that runs at once, as the scope of its threads is given it: in one value, which the scope's
 // closure moves whole.

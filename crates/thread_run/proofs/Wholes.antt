@@ -39,7 +39,7 @@ beginning-whole script beside app some known =
 -- Budgets. --
 
 -- so many calls more, which take nothing else
-calls_more : ℕ → Account → Account
+abbrev calls_more : ℕ → Account → Account
 calls_more n a = record { calls = a.calls + n; waits = a.waits; bytes = a.bytes; buffers = a.buffers; sizes = a.sizes }
 
 housekeeping_counted : (a : Account) → with_line a Housekeeping ≡ record { calls = a.calls + 1; waits = a.waits + 0; bytes = a.bytes + 0; buffers = a.buffers + 0; sizes = a.sizes }
@@ -61,7 +61,7 @@ housekeeping_all (suc n) a =
     ∙ housekeeping_all n (calls_more 1 a)
     ∙ λ i. record { calls = calls i; waits = a.waits; bytes = a.bytes; buffers = a.buffers; sizes = a.sizes }
 
-bytes_sent : ℕ → Account
+abbrev bytes_sent : ℕ → Account
 bytes_sent bytes = record { calls = 0 + 1; waits = 0 + 0; bytes = 0 + bytes; buffers = 0 + 0; sizes = replicate 64 0 }
 
 send_counted : (bytes : ℕ) → with_line no_calls (Send 0 bytes 0 false) ≡ bytes_sent bytes

@@ -12,13 +12,13 @@ close-requires-2-clause-joined c =
 
 pub returns-clause-run : goal.returns-clause-run
 returns-clause-run c =
-    closed-run c.args.script.now c.args.opened.bus c.args.opened.tables c.args.dones.items c.requires.dones c.requires.all c.join_all.new.bus_main c.join_all.new.tables_main
+    closed-run c.args.script.now c.args.opened.bus c.args.opened.tables c.args.dones.items c.requires.dones c.join_all.new.bus_main c.join_all.new.tables_main
     c.join_all.ensures.bus c.join_all.ensures.tables c.close.result c.close-2.result c.close.ensures.limits c.close.ensures.budgets c.close.ensures.legal c.close.ensures.extends
-    c.close.ensures.ended c.close-2.ensures.limits c.close-2.ensures.budgets c.close-2.ensures.legal c.close-2.ensures.extends c.close-2.ensures.ended
+    c.close.ensures.ended c.close-2.ensures.limits c.close-2.ensures.budgets c.close-2.ensures.legal c.close-2.ensures.extends c.close-2.ensures.ended c.requires.all
 
 pub returns-clause-receipts : goal.returns-clause-receipts
 returns-clause-receipts c =
     c.join_all.ensures.receipts
-    ∙ closed-receipts c.args.script.now c.args.opened.bus c.args.opened.tables c.args.dones.items c.requires.dones c.requires.all c.join_all.new.bus_main c.join_all.new.tables_main
+    ∙ closed-receipts c.args.script.now c.args.opened.bus c.args.opened.tables c.args.dones.items c.requires.dones c.join_all.new.bus_main c.join_all.new.tables_main
     c.join_all.ensures.bus c.join_all.ensures.tables c.close.result c.close-2.result c.close.ensures.limits c.close.ensures.budgets c.close.ensures.legal c.close.ensures.extends
-    c.close.ensures.ended c.close-2.ensures.limits c.close-2.ensures.budgets c.close-2.ensures.legal c.close-2.ensures.extends c.close-2.ensures.ended
+    c.close.ensures.ended c.close-2.ensures.limits c.close-2.ensures.budgets c.close-2.ensures.legal c.close-2.ensures.extends c.close-2.ensures.ended c.requires.all
