@@ -44,7 +44,7 @@ behind_last [] e = refl
 behind_last (x ∷ []) e = refl
 behind_last (x ∷ y ∷ es) e = behind_last (y ∷ es) e
 
-all_own : (app : ℕ) (es : List Entry) → All (λ (e : Entry). e.app ≡ app) (own_entries app es)
+pub all_own : (app : ℕ) (es : List Entry) → All (λ (e : Entry). e.app ≡ app) (own_entries app es)
 all_own app [] = All-nil (λ (e : Entry). e.app ≡ app)
 all_own app (x ∷ es) =
     elim (x.app == app) as (λ b. (x.app == app) ≡ b → All (λ (e : Entry). e.app ≡ app) (cond {A = List Entry} b (x ∷ own_entries app es) (own_entries app es))) [

@@ -24,7 +24,6 @@ use Rattle.sb_bridge.specs.Ports.{one_more}
 use Rattle.sb_bridge.proofs.Asked.{all_own}
 use Rattle.sb_bridge.proofs.FirstCalls.{all_its, callers_are, first_pipe, none_given, subscriptions_quiet}
 
-
 module _ (plan : PlanText) (p : ℕ) (old made now : PortView) (none : old.mine ≡ []) (app : now.app ≡ bridge_of plan.one) (limits : now.seen.limits ≡ plan.one.limits)
     (creates : HasCreated plan p old made) (calls : HasCalled made now (subscriptions p plan.routes)) (entries : List Entry) (seen : entries ≡ now.seen.log.entries)
     (quiet : (other : ℕ) → other ≢ bridge_of plan.one → own_entries other entries ≡ []) (depth : 1 ≤ plan.one.limits.depth) (pipes : 1 ≤ plan.one.limits.pipes) where
@@ -57,7 +56,7 @@ module _ (plan : PlanText) (p : ℕ) (old made now : PortView) (none : old.mine 
   begins_are : calls_in calls.begins ≡ subscriptions p plan.routes
   begins_are =
       let all : calls_in made.mine ++ calls_in calls.begins ≡ calls_in made.mine ++ subscriptions p plan.routes =
-          sym (map-append (λ (e : Entry). e.call) made.mine calls.begins) ∙ ap calls_in (sym calls.behind) ∙ calls.calls_are in
+      sym (map-append (λ (e : Entry). e.call) made.mine calls.begins) ∙ ap calls_in (sym calls.behind) ∙ calls.calls_are in
       cancel (calls_in made.mine) (calls_in calls.begins) (subscriptions p plan.routes) all
     where
       tail_is : (x : Call) (xs ys : List Call) → x ∷ xs ≡ x ∷ ys → xs ≡ ys

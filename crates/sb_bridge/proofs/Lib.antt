@@ -5,4 +5,5 @@ pub mod Waits
 pub mod FirstCalls
 pub mod Beginnings
 pub mod Forwarding
+pub mod Closes
 mod Threads

@@ -86,7 +86,7 @@ whole_on plan side = whole_of (script_of plan side) (Some (budget_on plan side))
 -- What a side leaves once its services were closed: histories that they can have, which merge the
 -- applications' calls and have of the bridge just the entries of its ports; they extend what the
 -- main part of the bus and the bridge's port had seen.
-pub record IsClosedSide (script : ScriptText) (seen : MainView) (ports : EndedPorts)
+pub record IsClosedSide (script with_bridge : ScriptText) (seen : MainView) (ports : EndedPorts)
     (finished : Finished) : Type 0 where
   pub limits : finished.bus.limits ≡ script.limits
   pub table_limits : finished.tables.limits ≡ script.limits
@@ -100,5 +100,5 @@ pub record IsClosedSide (script : ScriptText) (seen : MainView) (ports : EndedPo
   pub extends : Begins seen.seen finished.bus
   pub extends_port : Begins ports.port.seen finished.bus
   pub receipts : map (λ list. list.receipts) finished.receipts.items ≡
-      map (receipts_told script (histories_of finished.bus finished.tables))
+      map (receipts_told with_bridge (histories_of finished.bus finished.tables))
       (range_with_len 1 (length script.apps))

@@ -26,7 +26,8 @@ pub(crate) fn close_side<'r>(
     requires done { AreThrough (script_of plan.now side) (whole_on plan.now side) opened.bus
         opened.tables done }
     requires ports { AreEnded (script_of plan.now side) opened.bus opened.tables ports }
-    ensures { IsClosedSide (script_of plan.now side) opened.entry.bus_main ports result }
+    ensures { IsClosedSide (script_of plan.now side) (whole_on plan.now side) opened.entry.bus_main
+        ports.entry result }
 {
     let DoneSide {
         mut dones,

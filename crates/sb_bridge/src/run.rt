@@ -66,11 +66,11 @@ pub fn run_bridge<'r, R: Threads + Wait + Sync, G: Gate>(
         (histories_of left.two.bus left.two.tables)) }
     ensures receipts_on_one { IfOk result
         (λ left. map (λ list. list.receipts) left.one.receipts.items ≡
-        map (receipts_told plan.now.one (histories_of left.one.bus left.one.tables))
+        map (receipts_told (whole_on plan.now 1) (histories_of left.one.bus left.one.tables))
         (range_with_len 1 (length plan.now.one.apps))) }
     ensures receipts_on_two { IfOk result
         (λ left. map (λ list. list.receipts) left.two.receipts.items ≡
-        map (receipts_told plan.now.two (histories_of left.two.bus left.two.tables))
+        map (receipts_told (whole_on plan.now 2) (histories_of left.two.bus left.two.tables))
         (range_with_len 1 (length plan.now.two.apps))) }
 {
     let first = open_services(alloc, plan.script(1), Some(plan.budget_on_one()), one)?;
