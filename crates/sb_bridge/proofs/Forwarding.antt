@@ -22,7 +22,12 @@ budget-same : (old new : PortView) → IsSame old new → budget_of new ≡ budg
 budget-same old new same = ap₂ budget_at same.budgets same.app
 
 bridges-same : (shared : RunParts) (old new : PortView) → IsSame old new → IsBridges shared old → IsBridges shared new
-bridges-same shared old new same bridges = record { lock = same.lock ∙ bridges.lock; app = same.app ∙ bridges.app }
+bridges-same shared old new same bridges = record {
+  lock = same.lock ∙ bridges.lock;
+  app = same.app ∙ bridges.app;
+  limits = same.limits ∙ bridges.limits;
+  budgets = same.budgets ∙ bridges.budgets;
+}
 
 -- bytes of one message more
 bytes_more : (messages : List (List ℕ)) (message : List ℕ) → bytes_of (messages ++ message ∷ []) ≡ bytes_of messages + length message

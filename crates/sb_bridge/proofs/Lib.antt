@@ -6,4 +6,6 @@ pub mod FirstCalls
 pub mod Beginnings
 pub mod Forwarding
 pub mod Closes
+pub mod Budgets
+pub mod Arrivals
 mod Threads

@@ -13,7 +13,9 @@ use Rattle.tbl_words.specs.declared.calls.TblAnswer.TheVariants as table_answers
 use Rattle.tbl_words.specs.declared.history.Call.TheVariants as table_calls
 use Rattle.tbl_load.specs.Core.{MayCall as MayCallTables}
 use Rattle.tbl_service.specs.Ports.{Answers as TablesAnswers, DoneView as TablesDoneView, PortView as TablesPortView}
+use Rattle.app_run.specs.Openings.{budgets_for}
 use Rattle.thread_run.specs.declared.works.RunParts.{RunParts}
+use Rattle.thread_run.specs.Whole.{whole}
 use Rattle.bridge_plan.specs.Plan.{bridge_of}
 use Rattle.bridge_runs.specs.Bridge.{Waits}
 use Rattle.bridge_runs.specs.Lefts.{bytes_of}
@@ -29,6 +31,8 @@ use Rattle.sb_bridge.specs.Ports.{IsAt, IsOwn, budget_of, given_in}
 pub record IsBridges (shared : RunParts) (port : PortView) : Type 0 where
   pub lock : port.lock ≡ shared.bus.now
   pub app : port.app ≡ bridge_of shared.script.now
+  pub limits : port.seen.limits ≡ shared.script.now.limits
+  pub budgets : port.seen.log.budgets ≡ budgets_for (whole shared)
 
 -- no wait timed out
 abbrev pub AreInTime : List Entry → Type 0
