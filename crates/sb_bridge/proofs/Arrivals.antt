@@ -13,7 +13,7 @@ use Rattle.bus_words.specs.Runs.{callers, own_entries}
 use Rattle.bus_words.proofs.OwnEntries.{state_further}
 use Rattle.bus_words.proofs.Steps.{AreNumbered-after}
 use Rattle.bus_service.specs.Ports.{Answers, Begins, PortView}
-use Rattle.bus_service.proofs.Histories.{by_others}
+use Rattle.bus_service.proofs.Histories.{by_others, nothing_more}
 use Rattle.sb_calls.specs.Core.{Core, apps_of, state_of}
 use Rattle.script_runs.specs.Histories.{Histories}
 use Rattle.bridge_plan.specs.Plan.{PlanText, bridge_of}
@@ -58,16 +58,9 @@ module _ (p : ℕ) (from last : PortView) (at : IsAt p from) (ends : Answers fro
   others : All (λ (e : Entry). e.app ≢ from.app) more
   others =
       by_others from.app more
-      (none (own_entries from.app last.seen.log.entries) (own_entries from.app more)
+      (nothing_more (own_entries from.app last.seen.log.entries) (own_entries from.app more)
       (sym (filter-append (λ (e : Entry). e.app == from.app) last.seen.log.entries more)
       ∙ ap (own_entries from.app) all_is ∙ own ∙ sym recalled ∙ ap (λ n. own_entries n last.seen.log.entries) ends.app))
-    where
-      none : (xs ys : List Entry) → xs ++ ys ≡ xs → ys ≡ []
-      none [] ys is = is
-      none (x ∷ xs) ys is = none xs ys (tail_is x (xs ++ ys) xs is)
-        where
-          tail_is : (a : Entry) (l m : List Entry) → a ∷ l ≡ a ∷ m → l ≡ m
-          tail_is a l m is = cc is
 
   last_own : IsOwn last
   last_own = own_still from last End Done at.own ends recalled

@@ -71,6 +71,7 @@ module _ (plan : PlanText) (p : ℕ) (old made now : PortView) (none : old.mine 
     at = record { own = calls.own; owned = calls.owned p (creates.owned number) };
     active = calls.active;
     whole_is = whole_is;
+    alone = all_its (bridge_of plan.one) entries quiet;
     calls =
         callers_are (bridge_of plan.one) now.mine
         (subst (λ (es : List Entry). All (λ (e : Entry). e.app ≡ bridge_of plan.one) es) calls.own.mine (subst (λ n. All (λ (e : Entry). e.app ≡ n) (own_entries now.app now.seen.log.entries)) app (all_own now.app now.seen.log.entries)))

@@ -8,4 +8,5 @@ pub mod Forwarding
 pub mod Closes
 pub mod Budgets
 pub mod Arrivals
+pub mod WholeRuns
 mod Threads

@@ -8,7 +8,7 @@ use Rattle.bus_words.specs.declared.history.Call.{Call}
 use Rattle.bus_words.specs.declared.history.Call.TheVariants.{Create, Subscribe}
 use Rattle.bus_words.specs.declared.history.Entry.{Entry}
 use Rattle.bus_words.specs.Bus.{Active, owns}
-use Rattle.bus_words.specs.Runs.{callers, standing_behind}
+use Rattle.bus_words.specs.Runs.{callers, own_entries, standing_behind}
 use Rattle.bus_service.specs.Ports.{PortView}
 use Rattle.sb_calls.specs.Core.{state_of}
 use Rattle.app_run.specs.Openings.{opened, opened_tables}
@@ -65,6 +65,7 @@ pub record IsFirst (plan : PlanText) (p : ℕ) (entries : List Entry) (port : Po
   pub at : IsAt p port
   pub active : standing_behind port.mine ≡ Active
   pub whole_is : entries ≡ port.mine
+  pub alone : own_entries (bridge_of plan.one) entries ≡ entries
   pub calls : callers port.mine ≡ map (λ call. (bridge_of plan.one, call)) (first_calls plan p)
   pub pipe : MakesPipe p port.mine
   pub given : given_in port.seen p ≡ []
