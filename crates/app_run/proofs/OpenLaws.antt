@@ -513,7 +513,7 @@ finishes script n services all bags helds is as_many as_many_held t =
 
 -- The budgets of a script in range. --
 
-pub sum-map : {X Y : Type 0} (f : Y → ℕ) (g : X → Y) (xs : List X) → sum_by f (map g xs) ≡ sum_by (λ x. f (g x)) xs
+sum-map : {X Y : Type 0} (f : Y → ℕ) (g : X → Y) (xs : List X) → sum_by f (map g xs) ≡ sum_by (λ x. f (g x)) xs
 sum-map f g [] = refl
 sum-map f g (x ∷ xs) =
     sum_by-cons f (g x) (map g xs) ∙ ap (λ n. f (g x) + n) (sum-map f g xs) ∙ sym (sum_by-cons (λ y. f (g y)) x xs)
@@ -539,7 +539,7 @@ few-asked (line ∷ lines) = omega (arith, sum_by-cons buffers_of line lines, on
 budget-buffers : (lines : List Line) → (budget_of lines).buffers ≤ length lines
 budget-buffers lines = omega (arith, budget-asked lines, few-asked lines)
 
-pub few-entries : (apps : List Application) →
+few-entries : (apps : List Application) →
     sum_by (λ a. (budget_of a.lines).entries) apps ≤ 2 * sum_by (λ a. length a.lines) apps + length apps
 few-entries [] = omega arith
 few-entries (a ∷ apps) =
@@ -552,7 +552,7 @@ few-entries (a ∷ apps) =
       budget-entries a.lines,
     )
 
-pub few-buffers : (apps : List Application) → sum_by (λ a. (budget_of a.lines).buffers) apps ≤ sum_by (λ a. length a.lines) apps
+few-buffers : (apps : List Application) → sum_by (λ a. (budget_of a.lines).buffers) apps ≤ sum_by (λ a. length a.lines) apps
 few-buffers [] = omega arith
 few-buffers (a ∷ apps) =
     omega (

@@ -6,13 +6,13 @@ use Rattle.std.proofs.lemmas.List.Sums.{sum_by-append, sum_by-cons}
 use Rattle.fsw_base.specs.declared.config.Budget.{Budget}
 use Rattle.journal_store.specs.Budgets.{AreBudgets}
 use Rattle.script_lines.specs.declared.line.Line.{Line}
-use Rattle.script_lines.specs.declared.line.Line.TheVariants.{Send, SendRaw, TransmitBuffer, Housekeeping}
+use Rattle.script_lines.specs.declared.line.Line.TheVariants.{Send, SendRaw, TransmitBuffer, Housekeeping, Pend}
 use Rattle.script_settings.specs.declared.account.Account.{Account}
-use Rattle.script_settings.specs.Accounts.{budget_of, no_calls, with_line}
+use Rattle.script_settings.specs.Accounts.{budget_of, no_calls, waits_of, with_line}
 use Rattle.app_script.specs.Ranges.{IsInRange}
 use Rattle.app_script.specs.Script.{Application, ScriptText}
 use Rattle.app_run.specs.Openings.{budgets_for}
-use Rattle.app_run.proofs.OpenLaws.{few-buffers, few-entries, sum-map}
+use Rattle.app_run.proofs.OpenLaws.{are-budgets, budget-entries}
 use Rattle.bridge_plan.specs.Plan.{PlanText}
 use Rattle.bridge_plan.specs.Sends.{budget_on_one_of, budget_on_two_of, sends_of, sent_by, sent_from}
 use Rattle.thread_run.specs.Whole.{CanBeBeside, whole_of}
@@ -47,6 +47,32 @@ quiet_apps (app ∷ apps) none =
 pub can-two : (plan : PlanText) → CanBeBeside (budget_on_two_of plan)
 can-two plan = record { some = omega arith; bytes = λ few. quiet_apps plan.one.apps (omega (arith, few)); none = refl }
 
+-- how many entries the budgets of a script have
+sum-map : {X Y : Type 0} (f : Y → ℕ) (g : X → Y) (xs : List X) → sum_by f (map g xs) ≡ sum_by (λ x. f (g x)) xs
+sum-map f g [] = refl
+sum-map f g (x ∷ xs) = sum_by-cons f (g x) (map g xs) ∙ ap (λ n. f (g x) + n) (sum-map f g xs) ∙ sym (sum_by-cons (λ y. f (g y)) x xs)
+
+one-wait : (line : Line) → waits_of line ≤ 1
+unfolding waits_of
+one-wait (Pend pipe) = omega arith
+one-wait line = omega arith
+
+few-waits : (lines : List Line) → sum_by waits_of lines ≤ length lines
+few-waits [] = omega arith
+few-waits (line ∷ lines) = omega (arith, sum_by-cons waits_of line lines, one-wait line, few-waits lines)
+
+few-entries : (apps : List Application) → sum_by (λ a. (budget_of a.lines).entries) apps ≤ 2 * sum_by (λ a. length a.lines) apps + length apps
+few-entries [] = omega arith
+few-entries (a ∷ apps) =
+    omega (
+      arith,
+      sum_by-cons (λ (a : Application). (budget_of a.lines).entries) a apps,
+      sum_by-cons (λ (a : Application). length a.lines) a apps,
+      few-entries apps,
+      few-waits a.lines,
+      budget-entries a.lines,
+    )
+
 -- the budgets of a side
 pub are-budgets_beside : (script : ScriptText) (budget : Budget) → CanBeBeside budget → IsInRange script → 1 ≤ length script.apps → length script.apps ≤ 15 → budget.entries ≤ 40020 → budget.bytes ≤ 18057216 →
     AreBudgets (budgets_for (whole_of script (Some budget)))
@@ -79,9 +105,7 @@ are-budgets_beside script budget can range some few entries bytes =
           arith,
           sum_by-append (λ (b : Budget). b.buffers) all (budget ∷ []),
           sum_by-cons (λ (b : Budget). b.buffers) budget [],
-          sum-map (λ (b : Budget). b.buffers) own script.apps,
-          few-buffers script.apps,
-          range.calls,
+          (are-budgets script range some (omega (arith, few))).buffers,
           can.none,
         );
     })
