@@ -128,7 +128,7 @@ pub record Told (old : Pipes) (first : Subscribed) (id : ℕ) (message : Message
   pub room : misses.room ≡ start.room
 
 -- of one pipe at most one thing is told
-pub one_told : (message : Message) (sub : bus.LiveSubscription) (rows : List Row) → length (row_misses message sub rows) ≤ 1
+pub one_told : (message : Message) (sub : bus.Subscription) (rows : List Row) → length (row_misses message sub rows) ≤ 1
 one_told message sub rows = by_cause (option_and_then (λ (row : Row). cause_of (verdict (λ (i : ItemRow). i.subscription) row sub message.sender)) (pipe_at rows sub.pipe))
   where
     by_cause : (o : Option MissCause) → length (option_map_or {U = List Miss} (λ cause. record { pipe = sub.pipe; cause = cause } ∷ []) o []) ≤ 1

@@ -162,7 +162,7 @@ dests_few subscribed r id route routed way =
     ∙ ap length (routed.dests id route way)
     ∙ length-map (of_id id subscribed) number_of
     ∙ sym (length-map (of_id id subscribed) sub_in)
-    ∙ ap length (sym (filter-map (λ (sub : bus.LiveSubscription). eqb sub.id id) sub_in subscribed.live))
+    ∙ ap length (sym (filter-map (λ (sub : bus.Subscription). eqb sub.id id) sub_in subscribed.live))
 
 -- live subscriptions are no more than their ids' routes have
 each_counted : (number : ℕ) (live : List LiveSubscription) (routes : List Route) → All (λ s. is_some (route_from number routes s.id) ≡ true) live →
@@ -416,7 +416,7 @@ live_found rows pipe live = sym (any_some rows) ∙ (sym (list_any-map (λ (row 
 
 -- a pair that contracts see no subscription of is tied by none
 pub none_tied : (live : List LiveSubscription) (id pipe : ℕ) → bus.is_subscribed (map sub_in live) id pipe ≡ false → list_any (ties id pipe) live ≡ false
-none_tied live id pipe none = sym (list_any-map (λ (sub : bus.LiveSubscription). eqb sub.id id && eqb sub.pipe pipe) sub_in live) ∙ none
+none_tied live id pipe none = sym (list_any-map (λ (sub : bus.Subscription). eqb sub.id id && eqb sub.pipe pipe) sub_in live) ∙ none
 
 -- what contracts see then
 pub seen_more : (pipes : Pipes) (subscribed : Subscribed) (old new : Routing) (route node : ℕ) (s : LiveSubscription) → Leads subscribed old new s.id route → s.number ≡ subscribed.made + 1 →
@@ -431,7 +431,7 @@ seen_more pipes subscribed old new route node s lead number =
     let x : Route = record (route_at new route) { dests = dests_at new route ++ (node, number_of s) ∷ [] } in
     ap (λ (ways : List RouteRow). record (tables_in pipes next new) { routes = ways }) (map-set_same way_in new.routes route x (fresh_route 0) refl ∙ lead.ways)
     ∙ ap (λ (r : Routing). record (tables_in pipes next r) { routes = with_route (map way_in old.routes) s.id }) lead.same
-    ∙ ap (λ (l : List bus.LiveSubscription). record (tables_in pipes next old) { subscriptions = l; routes = with_route (map way_in old.routes) s.id }) (map_push sub_in subscribed.live s)
+    ∙ ap (λ (l : List bus.Subscription). record (tables_in pipes next old) { subscriptions = l; routes = with_route (map way_in old.routes) s.id }) (map_push sub_in subscribed.live s)
     ∙ ap (λ (n : ℕ). record (tables_in pipes subscribed old) {
       subscriptions = map sub_in subscribed.live ++ record { number = n; id = s.id; pipe = s.pipe; limit = s.limit; scope = s.scope } ∷ [];
       subscriptions_made = n;

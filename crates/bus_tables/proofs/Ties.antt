@@ -157,7 +157,7 @@ queued_left rows subs stays queued = record {
 -- What the tables stand for. --
 
 -- what they stand for once pipes and subscriptions have left, and routes have changed in their destinations alone
-pub seen_left : (pipes some : Pipes) (subs few : Subscribed) (routing next : Routing) (now : Tables) (rows : List Row) (left : List bus.LiveSubscription) → tables_in pipes subs routing ≡ now →
+pub seen_left : (pipes some : Pipes) (subs few : Subscribed) (routing next : Routing) (now : Tables) (rows : List Row) (left : List bus.Subscription) → tables_in pipes subs routing ≡ now →
     some ≡ record pipes { live = some.live; places = some.places } → map row_in some.live ≡ rows →
     few ≡ record subs { live = few.live } → map sub_in few.live ≡ left →
     next ≡ record routing { routes = next.routes } → ways_of next ≡ ways_of routing →

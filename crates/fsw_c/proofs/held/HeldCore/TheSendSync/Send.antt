@@ -14,7 +14,7 @@ use Rattle.std_heap.proofs.Global.TheSendSync as handle
 use Rattle.fsw_core.specs.contracts.Core as Core
 use Rattle.fsw_core.proofs.Core.TheSendSync.{the_send as core}
 use Rattle.fsw_c.specs.Owned.{maybe_owns}
-use Rattle.fsw_c.specs.contracts.held.Held.{the_row, the_type}
+use Rattle.fsw_c.specs.contracts.held.HeldCore.{the_row, the_type}
 
 -- what it owns names no thread
 owned : (alloc : Global) (p : Ptr) (held : Option Core.the_row.Denot) → Keyless (maybe_owns alloc p held)

@@ -43,7 +43,7 @@ into_block_spec 𝓤 𝓛 𝓜 𝓡 wired =
     first ! $ blocks ! $ sets_last ! (agg ! (and_then ! (get ! refl) (and_then ! (get ! refl) (no_more !)))) refl (tt, (tt, (record { fits = fits }, tt))) $
     exec ! 𝓣.C 𝓣.Λ Ev code.Mir.t-4 (at_ret Ev Post) $ sets ! (of_opd ! (get ! refl)) refl (tt, (tt, (record { fits = fits }, tt))) $
     use1 𝓛 (‵ (cells (mem u8) xs b o)) (whole_in 𝓛 u8 xs b o) $
-    use1 𝓛 (later (some (λ (γ : GName). ‵ ((MutSlice static [] u8).own_val (record { ref_ptr = (b, o); ghost_name = γ; now = xs }) (slice_val (b, o) n ∷ [])) ⊛ ‵ (flent [] (HeldCore u8 n b o γ)))))
+    use1 𝓛 (later (some (λ (γ : GName). ‵ ((MutSlice static [] u8).own_val (record { ref_ptr = (b, o); ghost_name = γ; now = xs }) (slice_val (b, o) n ∷ [])) ⊛ ‵ (flent [] (Held u8 n b o γ)))))
     (lends_slice 𝓛 u8 static [] xs b o (fits, small)) $ await ! tt $ pick ! (λ γ. split ! $ move ! (1 ∷ []) $ drop ! $
     let block : MutBor (List ℕ) = record { ref_ptr = (b, o); ghost_name = γ; now = xs } in
     let Told : SProp 𝓤 = (c κs a).ensures ghost block (at_exit f.ended κs a (tt, tt)) in
