@@ -55,7 +55,7 @@ module _ (crossing : Crossing) (from to : PortView) (was : IsForwarding crossing
     room = ap (λ (b : Budget). b.entries) (budget-same from now wait.same) ∙ was.begun.room;
   }
 
-  many : length to.mine ≡ length (given_in from.seen p)
+  pub many : length to.mine ≡ length (given_in from.seen p)
   many = sent_count to.mine (given_in from.seen p) was.sent.sent
 
   module _ (now : PortView) (took : TakesOne p from now) where

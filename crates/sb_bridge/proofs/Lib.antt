@@ -5,6 +5,7 @@ pub mod Waits
 pub mod FirstCalls
 pub mod Beginnings
 pub mod Forwarding
+pub mod Rounds
 pub mod Closes
 pub mod Budgets
 pub mod Arrivals

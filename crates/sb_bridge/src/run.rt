@@ -12,7 +12,7 @@ ghost use Rattle.sb_bridge.specs.Sides.{budget_on, whole_on};
 
 use crate::bridge::{BridgeJob, Crossing};
 use crate::closing::close_side;
-use crate::crews::crew_of;
+use crate::crews::{Crew, crew_of};
 use crate::opening::begin_bridge;
 use crate::threads::run_all;
 use app_run::{Finished, Regions};
@@ -99,14 +99,20 @@ fn run_open<'r, R: Threads + Wait + Sync, G: Gate>(
 {
     let one = parts_of(plan, 1, &first.bus, &first.tables);
     let two = parts_of(plan, 2, &second.bus, &second.tables);
-    let mut crew_one = crew_of(
+    let Crew {
+        side: mut side_one,
+        ports: mut ports_one,
+    } = crew_of(
         alloc,
         one,
         plan.bridge(1),
         &mut first.bus_main,
         &mut first.tables_main,
     )?;
-    let crew_two = crew_of(
+    let Crew {
+        side: side_two,
+        ports: ports_two,
+    } = crew_of(
         alloc,
         two,
         plan.bridge(2),
@@ -119,8 +125,8 @@ fn run_open<'r, R: Threads + Wait + Sync, G: Gate>(
         plan,
         one,
         &mut first.bus_main,
-        &mut crew_one.ports,
-        &mut crew_one.side.works,
+        &mut ports_one,
+        &mut side_one.works,
     );
     let crossing = Crossing {
         one,
@@ -131,10 +137,10 @@ fn run_open<'r, R: Threads + Wait + Sync, G: Gate>(
     };
     let bridge = BridgeJob {
         crossing,
-        from: crew_one.ports,
-        to: crew_two.ports,
+        from: ports_one,
+        to: ports_two,
     };
-    let ended = run_all(rt, gate, bridge, crew_one.side, crew_two.side);
+    let ended = run_all(rt, gate, bridge, side_one, side_two);
     Ok(Bridged {
         one: close_side(plan, 1, first, ended.one, ended.bridge.from),
         two: close_side(plan, 2, second, ended.two, ended.bridge.to),
