@@ -26,17 +26,17 @@ use Rattle.bridge_runs.proofs.LineSends.{waits_beside}
 use Rattle.sb_bridge.specs.Calls.{calls_in, sends_of}
 use Rattle.sb_bridge.specs.Ports.{IsAt, IsOwn, given_in}
 use Rattle.sb_bridge.proofs.Asked.{given, own_still, same}
-use Rattle.sb_bridge.proofs.OwnPipe.{IsOnly, given_others, only-owned, only_others, only-step}
+use Rattle.sb_bridge.proofs.OwnPipe.{IsOnly, given_others, only-owned, only_others}
 
 -- ---- the entries of the end
 
-same_front : {X : Type 0} (xs ys as bs : List X) → length xs ≡ length ys → xs ++ as ≡ ys ++ bs → (xs ≡ ys) × (as ≡ bs)
-same_front [] [] as bs long same = (refl, same)
-same_front [] (y ∷ ys) as bs long same = absurd (omega (arith, long))
-same_front (x ∷ xs) [] as bs long same = absurd (omega (arith, long))
-same_front {X} (x ∷ xs) (y ∷ ys) as bs long same =
-    let rest = same_front xs ys as bs (omega (arith, long)) (tail_is x y (xs ++ as) (ys ++ bs) same) in
-    (ap₂ (λ (a : X) (l : List X). a ∷ l) (head_is x y (xs ++ as) (ys ++ bs) same) rest.0, rest.1)
+same_front : {X : Type 0} (xs ys rest more : List X) → length xs ≡ length ys → xs ++ rest ≡ ys ++ more → (xs ≡ ys) × (rest ≡ more)
+same_front [] [] rest more long same = (refl, same)
+same_front [] (y ∷ ys) rest more long same = absurd (omega (arith, long))
+same_front (x ∷ xs) [] rest more long same = absurd (omega (arith, long))
+same_front {X} (x ∷ xs) (y ∷ ys) rest more long same =
+    let both = same_front xs ys rest more (omega (arith, long)) (tail_is x y (xs ++ rest) (ys ++ more) same) in
+    (ap₂ (λ (a : X) (l : List X). a ∷ l) (head_is x y (xs ++ rest) (ys ++ more) same) both.0, both.1)
   where
     head_is : (a b : X) (l m : List X) → a ∷ l ≡ b ∷ m → a ≡ b
     head_is a b l m is = cc is

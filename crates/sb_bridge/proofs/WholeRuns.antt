@@ -13,7 +13,7 @@ use Rattle.bus_words.specs.Machine.{IsLegal}
 use Rattle.bus_words.specs.Runs.{callers, own_entries}
 use Rattle.bus_service.specs.Ports.{Begins, DoneView, MainView, PortView}
 use Rattle.sb_calls.specs.Core.{Core, apps_of}
-use Rattle.tbl_words.specs.declared.history.Call.{Call as TableCall}
+use Rattle.tbl_words.specs.declared.calls.TblAnswer.TheVariants as table_answers
 use Rattle.tbl_words.specs.declared.history.Call.TheVariants as table_calls
 use Rattle.tbl_words.specs.declared.history.Entry.{Entry as TableEntry}
 use Rattle.tbl_service.specs.Ports.{DoneView as TablesDoneView, PortView as TablesPortView}
@@ -54,7 +54,7 @@ ends_alone : (shared : RunParts) (ports : BridgePorts) (ended : EndedPorts) → 
 ends_alone shared ports ended may ends script history own =
     ap (map (λ (e : TableEntry). e.call))
     (own ∙ ap (λ (d : TablesDoneView). d.mine) ends.tables_port ∙ ends.table_answers.mine
-    ∙ ap (λ (es : List TableEntry). es ++ record { app = ports.tables_port.app; call = table_calls.End; answer = _ } ∷ []) may.none)
+    ∙ ap (λ (es : List TableEntry). es ++ record { app = ports.tables_port.app; call = table_calls.End; answer = table_answers.Done } ∷ []) may.none)
 
 -- ---- the run
 
@@ -78,15 +78,12 @@ module _ (plan : PlanText) (crossing : Crossing) (done : BridgeDone) (through : 
   given-is : given_by plan.one p one.bus.log.entries ≡ given_in from.seen p
   given-is =
       let ends = through.ends_on_one in
-      ap₂ (λ l n. given_with l n) (sym limits-are) (sym apps)
+      ap₂ (λ (l : Limits) n. map (λ (received : Received). received.message) (receipts l n p one.bus.log.entries)) (sym limits-are) (sym apps)
       ∙ given_in_all p from ends.last through.stopped.begun.at ends.answers ends.mine one.bus
       (subst (λ (d : DoneView). Begins d.seen one.bus) ends.port side_one.extends_port)
       (side_one.limits ∙ sym limits-are) (side_one.apps ∙ sym apps)
       (subst (λ l. IsLegal l (apps_of from.seen) one.bus.log.entries) (sym limits-are) (subst (λ n. IsLegal plan.one.limits n one.bus.log.entries) (sym apps) side_one.legal.bus))
       (ap (λ n. own_entries n one.bus.log.entries) app-is ∙ side_one.bridge ∙ ap (λ (d : DoneView). d.mine) ends.port)
-    where
-      abbrev given_with : Limits → ℕ → List (List ℕ)
-      given_with l n = map (λ (received : Received). received.message) (receipts l n p one.bus.log.entries)
 
   begun-count : length through.stopped.first ≡ length met.seen.log.entries
   begun-count =
