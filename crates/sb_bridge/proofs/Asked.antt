@@ -1,6 +1,7 @@
 -- What one call of a port leaves of what is known of it.
-use Rattle.std.proofs.Common.{◌≡◌, ◌≢◌, ℕ, ◌+◌, ◌-◌, ◌≤◌, ◌==◌, Bool, true, false, cond, true≢false, eqb-true, nat_le, IsTrue, List, [], ◌∷◌, ◌++◌, length, map, append-nil, Option, Some, None, IfSome, refl, ap, sym, ◌∙◌, subst, arith, All}
+use Rattle.std.proofs.Common.{◌≡◌, ◌⊎◌, inl, inr, ℕ, ◌+◌, ◌-◌, ◌<◌, ◌≤◌, ◌==◌, ◌&&◌, Bool, true, false, cond, true≢false, eqb-true, nat_le, IsTrue, List, [], ◌∷◌, ◌++◌, length, map, append-nil, Option, Some, None, IfSome, refl, ap, sym, ◌∙◌, subst, arith, All}
 use Rattle.std.specs.Option.{option_map, option_map_or, option_and_then}
+use Rattle.std.proofs.lemmas.Bool.Decides.{nat_tests}
 use Rattle.std.proofs.lemmas.List.{map-append}
 use Rattle.std.proofs.lemmas.List.Elements.{All-nil, All-cons}
 use Rattle.fsw_base.specs.declared.config.Budget.{Budget}
@@ -19,7 +20,9 @@ use Rattle.bus_words.specs.Log.{left_of}
 use Rattle.bus_words.specs.Machine.{IsLegal, may_call, state_after, step}
 use Rattle.bus_words.specs.Pipes.{last_on}
 use Rattle.bus_words.specs.Runs.{own_entries, standing_behind, standing_by}
-use Rattle.bus_words.proofs.Finds.{same-self}
+use Rattle.bus_words.proofs.Finds.{both}
+use Rattle.ccsds_msg.specs.Message.{IsMessage}
+use Rattle.script_runs.proofs.OnlyMessages.{own_last-message}
 use Rattle.bus_words.proofs.Isolation.{gives_newest}
 use Rattle.bus_words.proofs.Journals.{length-left_of}
 use Rattle.bus_words.proofs.OwnEntries.{left_by_own, state_further}
@@ -34,7 +37,7 @@ use Rattle.bus_service.specs.Ports.{Answers, AnswersLook, PortView}
 use Rattle.sb_calls.specs.declared.results.Pended.TheVariants as looks
 use Rattle.sb_bridge.proofs.OwnBudget.{left_by_mine}
 use Rattle.sb_bridge.proofs.OwnPipe.{IsOnly, given_one, given_others, only-owned, owned_others}
-use Rattle.sb_bridge.specs.Ports.{HasTaken, HasTimedOut, IsAt, IsOwn, IsSame, WaitsStill, budget_of, given_in, one_more}
+use Rattle.sb_bridge.specs.Ports.{HasTaken, HasTimedOut, IsAt, IsOwn, IsSame, LacksRoom, Sends, WaitsStill, budget_of, given_in, one_more}
 use Rattle.sb_bridge.specs.Calls.{bytes_in, calls_in}
 
 -- ---- own entries
@@ -281,3 +284,74 @@ looked-in-vain p first old new mine was made recalled =
           ∙ ap (map (λ (received : Received). received.message)) (given_others limits apps old.app p old.seen.log.entries made.others.entries own.legal legal only made.others.by_others)
           ∙ was.given;
     }
+
+-- ---- a send
+
+-- as the test of room tells it
+abbrev pub has_room : PortView → ℕ → Bool
+has_room port size = nat_le 2 (allowance_of (left_of port.seen.log) port.app).entries && nat_le size (allowance_of (left_of port.seen.log) port.app).bytes
+
+le_true : (m n : ℕ) → nat_le m n ≡ true → m ≤ n
+le_true m n is = grind (arith, nat_tests, is)
+
+le_false : (m n : ℕ) → nat_le m n ≡ false → n < m
+le_false m n is = grind (arith, nat_tests, is)
+
+true_le : (m n : ℕ) → m ≤ n → nat_le m n ≡ true
+true_le m n is = grind (arith, nat_tests, is)
+
+pub may_send : (port : PortView) → IsOwn port → standing_behind port.mine ≡ Active → (message : List ℕ) → length message ≤ 65542 → has_room port (length message) ≡ true → MayCall port.seen port.app (Transmit message false)
+may_send port own active message short room =
+    let left = allowance_of (left_of port.seen.log) port.app in
+    let tests = both (nat_le 2 left.entries) (nat_le (length message) left.bytes) room in
+    let entries = le_true 2 left.entries tests.0 in
+    record {
+      known = own.known;
+      standing = subst (λ (s : Standing). IsTrue (may_call s (Transmit message false))) (sym (standing_is port own ∙ active)) refl;
+      room = record {
+        known = omega (arith, own.known, length-left_of port.seen.log);
+        one_entry = omega (arith, entries);
+        its_bytes = le_true (length message) left.bytes tests.1;
+      };
+      within = true_le (length message) 65542 short;
+    }
+
+pub sends-one : (old new : PortView) (message : List ℕ) (answer : BusAnswer) → IsOwn old → Answers old new (Transmit message false) answer → own_entries new.app new.seen.log.entries ≡ new.mine → has_room old (length message) ≡ true →
+    Sends message old new
+sends-one old new message answer own made recalled room =
+    let left = allowance_of (left_of old.seen.log) old.app in
+    let entries = le_true 2 left.entries (both (nat_le 2 left.entries) (nat_le (length message) left.bytes) room).0 in
+    record {
+      same = same old new (Transmit message false) answer own made recalled;
+      own = own_still old new (Transmit message false) answer own made recalled;
+      active = stands old new (Transmit message false) answer own made recalled;
+      answer = answer;
+      mine = made.mine;
+      spare = omega (arith, entries, ap (λ (a : Allowance). a.entries) (left_is old own));
+    }
+
+pub lacks-room : (port : PortView) (message : List ℕ) → IsOwn port → has_room port (length message) ≡ false → LacksRoom message port port
+lacks-room port message own none =
+    let left = allowance_of (left_of port.seen.log) port.app in
+    let is = left_is port own in
+    record {
+      unchanged = refl;
+      lacks =
+          elim (nat_le 2 left.entries) as (λ b. nat_le 2 left.entries ≡ b → (b && nat_le (length message) left.bytes) ≡ false → ((budget_of port).entries ≤ length port.mine + 1) ⊎ ((budget_of port).bytes < bytes_in (calls_in port.mine) + length message)) [
+            | true ↦ λ some long. inr (let more = le_false (length message) left.bytes long in omega (arith, more, ap (λ (a : Allowance). a.bytes) is))
+            | false ↦ λ few any. inl (let less = le_false 2 left.entries few in omega (arith, less, ap (λ (a : Allowance). a.entries) is))
+          ] refl none;
+    }
+
+-- what is received is a message
+short_item : (found : Option Item) (message : List ℕ) → IfSome found (λ item. IsMessage item.message) → option_map (λ (item : Item). item.message) found ≡ Some message → IsMessage message
+short_item None message is same = absurd (cc same)
+short_item (Some item) message is same = let it : item.message ≡ message = cc same in subst IsMessage it is
+
+pub message_last : (limits : Limits) (apps : ℕ) (history : List Entry) (app p : ℕ) (message : List ℕ) → last_message (state_after limits apps history) app p ≡ Some message → IsMessage message
+message_last limits apps history app p message last =
+    let pipes = (state_after limits apps history).pipes in
+    (elim (owns pipes app p) as (λ b. IfSome (cond {A = Option Item} b (last_on pipes p) None) (λ item. IsMessage item.message) → cond {A = Option (List ℕ)} b (option_map (λ (item : Item). item.message) (last_on pipes p)) None ≡ Some message → IsMessage message) [
+      | true ↦ λ is same. short_item (last_on pipes p) message is same
+      | false ↦ λ is same. absurd (cc same)
+    ] (own_last-message limits apps history app p) last)

@@ -15,11 +15,8 @@ use Rattle.sb_bridge.specs.declared.bridge.Crossing.{Crossing}
 use Rattle.sb_bridge.specs.Calls.{bytes_in, calls_in, sends_of}
 use Rattle.sb_bridge.specs.Ports.{HasWaited, IsSame, LacksRoom, Sends, TakesOne, TimesOut, budget_of, given_in}
 use Rattle.sb_bridge.specs.Works.{AreTooMany, EndInTimeOut, HasBegun, HasSent, HasStopped, IsBridges, IsForwarding}
-use Rattle.sb_bridge.proofs.OwnBudget.{budget_at, bytes_sent}
-use Rattle.sb_bridge.proofs.Waits.{waits-append}
-
-budget-same : (old new : PortView) → IsSame old new → budget_of new ≡ budget_of old
-budget-same old new same = ap₂ budget_at same.budgets same.app
+use Rattle.sb_bridge.proofs.OwnBudget.{bytes_sent}
+use Rattle.sb_bridge.proofs.Waits.{budget-same, waits-append}
 
 bridges-same : (shared : RunParts) (old new : PortView) → IsSame old new → IsBridges shared old → IsBridges shared new
 bridges-same shared old new same bridges = record {

@@ -6,6 +6,7 @@ ghost use Rattle.bus_words.specs.Runs.{standing_behind};
 ghost use Rattle.journal_store.specs.Budgets.{allowance_of};
 ghost use Rattle.bus_words.specs.Log.{left_of};
 ghost use Rattle.sb_calls.specs.Bags.{last_message};
+ghost use Rattle.ccsds_msg.specs.Message.{IsMessage};
 ghost use Rattle.sb_calls.specs.Core.{state_of};
 ghost use Rattle.sb_bridge.specs.Ports.{HasTaken, HasTimedOut, IsAt, IsOwn, LacksRoom, Sends, TakesOne, TimesOut, budget_of};
 ghost use Rattle.sb_bridge.specs.Works.{HasStopped, IsForwarding, IsThrough, MayBridge, EndsAs, MayEnd, is_of};
@@ -127,15 +128,16 @@ fn take_next<'r, R: Wait>(rt: &R, bus: &Bus<'r>, from: &mut BusPort<'r>, pipe: u
     ensures took { IsTrue result → TakesOne pipe from.old from.new }
     ensures timed_out { result ≡ false → TimesOut pipe from.old from.new }
 {
-    let told = from.pend(bus, rt, pipe);
+    let Ok(told) = from.pend(bus, rt, pipe) else {
+        // The pipe is the bridge's own.
+        unreachable!()
+    };
     // The proof learns that its entries are all that the history has of it.
     from.recall();
     match told {
-        Ok(Pended::Got(_)) => true,
-        Ok(Pended::TimeOut) => false,
-        Ok(Pended::Pending) => look_on(rt, bus, from, pipe),
-        // The pipe is the bridge's own.
-        Err(_) => unreachable!(),
+        Pended::Got(_) => true,
+        Pended::TimeOut => false,
+        Pended::Pending => look_on(rt, bus, from, pipe),
     }
 }
 
@@ -195,16 +197,24 @@ fn send_on<'r, R: Wait>(rt: &R, bus: &Bus<'r>, to: &mut BusPort<'r>, message: &[
     requires bus { to.old.lock ≡ bus.now }
     requires own { IsOwn to.old }
     requires active { standing_behind to.old.mine ≡ Active }
-    requires short { length message.now ≤ 65542 }
+    requires message { IsMessage message.now }
     ensures sent { IsTrue result → Sends message.now to.old to.new }
     ensures no_room { result ≡ false → LacksRoom message.now to.old to.new }
 {
-    let fits = 2 <= to.entries_left() && message.len() <= to.bytes_left() as usize;
-    if fits {
-        let _ = to.transmit(bus, rt, message, false);
-        to.recall();
+    if !has_room(to, message) {
+        return false;
     }
-    fits
+    let _ = to.transmit(bus, rt, message, false);
+    to.recall();
+    true
+}
+
+// Whether the budget of side 2 has entries for a send and the end, and the message's bytes.
+fn has_room(to: &BusPort<'_>, message: &[u8]) -> bool
+    ensures { result ≡ (nat_le 2 (allowance_of (left_of to.now.seen.log) to.now.app).entries &&
+        nat_le (length message.now) (allowance_of (left_of to.now.seen.log) to.now.app).bytes) }
+{
+    2 <= to.entries_left() && message.len() <= to.bytes_left() as usize
 }
 
 // Ends on a side, at the tables first and then at the bus.

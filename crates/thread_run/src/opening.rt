@@ -59,6 +59,7 @@ pub fn open_services<'r>(
 }
 
 // What each application may add to each of the two histories, that beside the script's too.
+#[tactic(auto, using(crate::proofs::Wholes::budgets_beside))]
 fn all_budgets(
     alloc: Global,
     script: &Script,
@@ -68,10 +69,13 @@ fn all_budgets(
     ensures { IfOk result (λ budgets. budgets.items ≡ budgets_for (whole_of script.now beside)) }
 {
     let mut budgets = budgets_of(alloc, script)?;
-    if let Some(budget) = beside {
-        budgets.push(budget)?;
+    match beside {
+        None => Ok(budgets),
+        Some(budget) => {
+            budgets.push(budget)?;
+            Ok(budgets)
+        }
     }
-    Ok(budgets)
 }
 
 /// Takes the memory of all applications: of each its ports with their bags, its runner, and the
