@@ -35,8 +35,8 @@ pub record IsBetweenTurns (script : ScriptText) (app : ℕ) (progress : Progress
   pub own : caller.app ≡ app
   pub way : IsOnItsWay script (services_of caller) (with_bags progress caller)
 
--- the application may take its first turn, by its own ports; it has made no call of the bus, and seen
--- none
+-- the application may take its first turn, by its own ports; it has made no call of the bus, and
+-- seen none
 pub record MayWork (script : ScriptText) (bus tables : TableId) (app : ℕ)
     (work : Work) : Type 0 where
   pub before : work.port.seen ≡ opened script

@@ -176,7 +176,11 @@ fn open_one<'e, 'r>(
 }
 
 /// Puts an application behind those of smaller numbers.
-pub(crate) fn note_work<'e, 'r>(works: &mut Vec<Work<'e, 'r>>, _shared: RunParts<'_, 'r>, work: Work<'e, 'r>)
+pub(crate) fn note_work<'e, 'r>(
+    works: &mut Vec<Work<'e, 'r>>,
+    _shared: RunParts<'_, 'r>,
+    work: Work<'e, 'r>,
+)
     requires room { length works.old.items + 1 ≤ vec_capacity works.old }
     requires works { Numbered (MayWork (whole _shared) _shared.bus.now _shared.tables.now) 1
         works.old.items }

@@ -52,13 +52,11 @@ impl AllStarted {
 
 /// Asks for a thread of the scope for an application's run. It has no runtime, so it waits for no
 /// thread.
-pub fn start_one<
-    's,
-    E,
-    D: Send + Drop + 's,
-    P: Promise<D> + Drop,
-    F: FnOnce() -> D + Send + 's,
->(scope: &Scope<'s, E>, promise: P, run: F) -> Start<D, P, F>
+pub fn start_one<'s, E, D: Send + Drop + 's, P: Promise<D> + Drop, F: FnOnce() -> D + Send + 's>(
+    scope: &Scope<'s, E>,
+    promise: P,
+    run: F,
+) -> Start<D, P, F>
     requires runs { F.pre run }
     requires keeps { (done : D) → F.post run done → P.kept_by promise done }
     ensures thread { IfOk result.start (λ handle. handle.promise ≡ promise) }
