@@ -10,8 +10,8 @@ pend-requires-clause-may g c = may_wait c.args.pipe c.args.from.now c.requires.a
 
 pub unreachable-requires : goal.unreachable-requires
 unreachable-requires g c =
-    not_refused-by_pend c.args.pipe c.args.from.now c.pend.new.self c.in-Err.field-0 c.requires.at
-    (subst (λ r. Answers c.args.from.now c.pend.new.self (Pend c.args.pipe) (pended r)) c.in-Err.is c.pend.ensures.answers)
+    not_refused-by_pend c.args.pipe c.args.from.now c.pend.new.self c.in_default.field-0 c.requires.at
+    (subst (λ r. Answers c.args.from.now c.pend.new.self (Pend c.args.pipe) (pended r)) c.in_default.is c.pend.ensures.answers)
 
 pub returns-in-Got-clause-took : goal.returns-in-Got-clause-took
 returns-in-Got-clause-took g c = λ is.
