@@ -1,10 +1,10 @@
 //! Starts all applications, each on a thread of its own, and waits for their ends.
-ghost use Rattle.std.specs.Prelude.{◌≡◌, ◌≤◌, [], length, IfOk, vec_len, vec_capacity};
-ghost use Rattle.thread_run.specs.Kept.{Comes, HaveRoomFor, IsBegun};
+ghost use Rattle.std.specs.Prelude.{◌≡◌, ◌+◌, ◌≤◌, [], length, IfOk, vec_len, vec_capacity};
+ghost use Rattle.thread_run.specs.Kept.{HaveRoomFor, IsBegun};
 ghost use Rattle.thread_run.specs.Works.{IsDone, MayWork, Numbered};
 
 use crate::lists::{note_begun, note_done, take_last, take_last_begun};
-use crate::starts::{AllStarted, Begun, start_one};
+use crate::starts::{Begun, Starts, start_one};
 use crate::works::{Done, Ends, Job, RunParts, Work, run_one};
 use fsw_base::Gate;
 use std::alloc::{AllocError, Global};
@@ -48,6 +48,7 @@ pub(crate) fn run_all<'e, 'r, R: Threads + Wait + Sync, G: Gate>(
 ) -> Vec<Done>
     requires works { Numbered (MayWork shared.script.now shared.bus.now shared.tables.now) 1
         works.items }
+    requires apps { length works.items ≡ length shared.script.now.apps }
     requires room { HaveRoomFor (length works.items) lists }
     ensures done { Numbered (IsDone shared.entry.script.now shared.entry.bus.now
         shared.entry.tables.now) 1 result.items }
@@ -66,6 +67,7 @@ pub(crate) fn run_all<'e, 'r, R: Threads + Wait + Sync, G: Gate>(
         move |scope| -> Vec<Done>
             requires works { Numbered (MayWork jobs.shared.script.now jobs.shared.bus.now
                 jobs.shared.tables.now) 1 jobs.works.items }
+            requires apps { length jobs.works.items ≡ length jobs.shared.script.now.apps }
             requires room { HaveRoomFor (length jobs.works.items) jobs.lists }
             ensures done { Numbered (IsDone jobs.entry.shared.script.now jobs.entry.shared.bus.now
                 jobs.entry.shared.tables.now) 1 result.items }
@@ -97,6 +99,7 @@ fn run_in<'s, 'x, 'e: 's, 'r: 's, R: Threads + Wait + Sync, G: Gate>(
 ) -> Vec<Done>
     requires works { Numbered (MayWork jobs.shared.script.now jobs.shared.bus.now
         jobs.shared.tables.now) 1 jobs.works.items }
+    requires apps { length jobs.works.items ≡ length jobs.shared.script.now.apps }
     requires room { HaveRoomFor (length jobs.works.items) jobs.lists }
     ensures done { Numbered (IsDone jobs.entry.shared.script.now jobs.entry.shared.bus.now
         jobs.entry.shared.tables.now) 1 result.items }
@@ -113,8 +116,9 @@ fn run_in<'s, 'x, 'e: 's, 'r: 's, R: Threads + Wait + Sync, G: Gate>(
         mut begun,
         mut dones,
     } = lists;
-    let all = begin_rest(scope, rt, gate, shared, &mut works, &mut begun);
-    end_rest(rt, shared, &mut begun, &mut dones, &all);
+    let mut starts = Starts::none();
+    begin_rest(scope, rt, gate, shared, &mut works, &mut starts, &mut begun);
+    end_rest(rt, shared, &mut begun, &mut dones, &starts);
     dones
 }
 
@@ -126,24 +130,28 @@ fn begin_rest<'s, 'x, 'e: 's, 'r: 's, R: Threads + Wait + Sync, G: Gate>(
     gate: &'e G,
     shared: RunParts<'e, 'r>,
     works: &mut Vec<Work<'e, 'r>>,
+    starts: &mut Starts,
     begun: &mut Vec<Begun<Ends<'e, 'r>>>,
-) -> AllStarted
+)
     requires works { Numbered (MayWork shared.script.now shared.bus.now shared.tables.now) 1
         works.old.items }
+    requires left { starts.old.asked + length works.old.items ≡ length shared.script.now.apps }
     requires empty { begun.old.items ≡ [] }
     requires room { vec_len works.old ≤ vec_capacity begun.old }
     ensures begun { Numbered (IsBegun shared.entry.script.now shared.entry.bus.now
         shared.entry.tables.now) 1 begun.new.items }
     ensures all { length begun.new.items ≡ length works.old.items }
+    ensures asked { starts.new.asked ≡ length shared.entry.script.now.apps }
     ensures room { vec_capacity begun.new ≡ vec_capacity begun.old }
 {
     let Some(one) = take_last(works, shared) else {
-        return AllStarted::none_left(works.as_slice());
+        return;
     };
     let app = one.runner.app();
     let ends = Ends { shared, app };
     let job = Job { shared, work: one };
     let start = start_one(
+        starts,
         scope,
         ends,
         move || -> Done
@@ -151,10 +159,9 @@ fn begin_rest<'s, 'x, 'e: 's, 'r: 's, R: Threads + Wait + Sync, G: Gate>(
                 job.work.runner.running.app job.work }
         { run_one(rt, gate, job) },
     );
-    let all = begin_rest(scope, rt, gate, shared, works, begun);
-    let one = start.begin(&all);
+    begin_rest(scope, rt, gate, shared, works, starts, begun);
+    let one = start.begin(starts);
     note_begun(begun, shared, app, one);
-    all
 }
 
 // Waits for the ends of those that are left, in order of number.
@@ -163,10 +170,11 @@ fn end_rest<'e, 'r, R: Threads>(
     shared: RunParts<'_, 'r>,
     begun: &mut Vec<Begun<Ends<'e, 'r>>>,
     dones: &mut Vec<Done>,
-    all: &AllStarted,
+    starts: &Starts,
 )
     requires begun { Numbered (IsBegun shared.script.now shared.bus.now shared.tables.now) 1
         begun.old.items }
+    requires asked { starts.now.asked ≡ length shared.script.now.apps }
     requires empty { dones.old.items ≡ [] }
     requires room { length begun.old.items ≤ vec_capacity dones.old }
     ensures dones { Numbered (IsDone shared.entry.script.now shared.entry.bus.now
@@ -177,7 +185,7 @@ fn end_rest<'e, 'r, R: Threads>(
     let Some(one) = take_last_begun(begun, shared) else {
         return;
     };
-    end_rest(rt, shared, begun, dones, all);
-    let done = one.end(rt, all);
+    end_rest(rt, shared, begun, dones, starts);
+    let done = one.end(rt, starts);
     note_done(dones, shared, done);
 }

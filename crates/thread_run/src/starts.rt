@@ -2,20 +2,20 @@
 //! no thread could be started.
 //!
 //! The parts of these types are private. So outside of this file no thread is waited for, and
-//! nothing runs in the caller's place, before a thread was asked for of each application (by an
-//! empty list of those left; that it is the run's is by reading); and what a thread returned can't
+//! nothing runs in the caller's place, before as many threads were asked for as the run has
+//! applications, by the run that the thread's own promise names; and what a thread returned can't
 //! stand in the place of what the caller ran.
-ghost use Rattle.std.specs.Prelude.{◌≡◌, [], IfOk, IfErr};
+ghost use Rattle.std.specs.Prelude.{◌≡◌, ◌+◌, ◌<◌, IfOk, IfErr};
 ghost use Rattle.thread_run.specs.Kept.{BeginsAs, Comes};
 
-use crate::works::{Done, Work};
+use crate::works::{Done, OfRun};
 use std::thread::{Promise, PromisedHandle, Scope, SpawnError, Threads};
 
-/// A thread was asked for of each application of a run.
+/// How many threads were asked for.
 #[derive(Drop)]
-pub(crate) struct AllStarted {
-    // Private, so that only this file makes one.
-    _none_left: (),
+pub(crate) struct Starts {
+    // Private, so that only `start_one` counts here.
+    asked: u32,
 }
 
 /// The start of an application: its thread, or what was handed back since none could be started.
@@ -23,6 +23,8 @@ pub(crate) struct AllStarted {
 pub(crate) struct Start<P: Promise<Done>, F> {
     // Private, so that only this file waits for the thread, or runs what was handed back.
     start: Result<PromisedHandle<Done, P>, SpawnError<F>>,
+    // How many applications its run has.
+    apps: u32,
 }
 
 /// An application that was begun, once all were started.
@@ -30,6 +32,8 @@ pub(crate) struct Start<P: Promise<Done>, F> {
 pub(crate) struct Begun<P: Promise<Done>> {
     // Private, so that only this file makes one.
     place: Place<P>,
+    // How many applications its run has.
+    apps: u32,
 }
 
 // Where an application runs.
@@ -41,53 +45,61 @@ enum Place<P: Promise<Done>> {
     Here(Done),
 }
 
-impl AllStarted {
-    /// No application is left to start.
-    pub(crate) fn none_left(_works: &[Work<'_, '_>]) -> AllStarted
-        requires { _works.now ≡ [] }
+impl Starts {
+    /// None was asked for yet.
+    pub(crate) fn none() -> Starts
+        ensures { result.asked ≡ 0 }
     {
-        AllStarted { _none_left: () }
+        Starts { asked: 0 }
     }
 }
 
 /// Asks for a thread of the scope for an application's run. It has no runtime, so it waits for no
 /// thread.
-pub(crate) fn start_one<'s, E, P: Promise<Done> + Drop, F: FnOnce() -> Done + Send + 's>(
+pub(crate) fn start_one<'s, E, P: Promise<Done> + OfRun + Drop, F: FnOnce() -> Done + Send + 's>(
+    starts: &mut Starts,
     scope: &Scope<'s, E>,
     promise: P,
     run: F,
 ) -> Start<P, F>
+    requires left { starts.old.asked < P.run_apps promise }
     requires runs { F.pre run }
     requires keeps { (done : Done) → F.post run done → P.kept_by promise done }
+    ensures counted { starts.new.asked ≡ starts.old.asked + 1 }
+    ensures apps { result.apps ≡ P.run_apps promise }
     ensures thread { IfOk result.start (λ handle. handle.promise ≡ promise) }
     ensures handed_back { IfErr result.start (λ refused. refused.value ≡ run) }
 {
+    let apps = promise.apps();
+    starts.asked += 1;
     Start {
         start: scope.spawn_with(promise, run),
+        apps,
     }
 }
 
 impl<P: Promise<Done>, F: FnOnce() -> Done> Start<P, F> {
     /// The application as it was begun, once all were started: if no thread could be started, it
     /// is run here.
-    pub(crate) fn begin(self, _all: &AllStarted) -> Begun<P>
-        requires { IfErr self.start (λ refused. F.pre refused.value) }
-        ensures { BeginsAs F.post self.start result.place }
+    pub(crate) fn begin(self, _starts: &Starts) -> Begun<P>
+        requires all { _starts.now.asked ≡ self.apps }
+        requires runs { IfErr self.start (λ refused. F.pre refused.value) }
+        ensures place { BeginsAs F.post self.start result.place }
+        ensures apps { result.apps ≡ self.apps }
     {
-        match self.start {
-            Ok(handle) => Begun {
-                place: Place::OnThread(handle),
-            },
-            Err(refused) => Begun {
-                place: Place::Here((refused.value)()),
-            },
-        }
+        let Start { start, apps } = self;
+        let place = match start {
+            Ok(handle) => Place::OnThread(handle),
+            Err(refused) => Place::Here((refused.value)()),
+        };
+        Begun { place, apps }
     }
 }
 
 impl<P: Promise<Done>> Begun<P> {
     /// Waits for the application's end, once all were started.
-    pub(crate) fn end<R: Threads>(self, rt: &R, _all: &AllStarted) -> Done
+    pub(crate) fn end<R: Threads>(self, rt: &R, _starts: &Starts) -> Done
+        requires all { _starts.now.asked ≡ self.apps }
         ensures { Comes P.kept_by self.place result }
     {
         match self.place {

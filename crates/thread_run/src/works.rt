@@ -1,5 +1,5 @@
 //! One application's run on its thread.
-ghost use Rattle.std.specs.Prelude.{◌≡◌, true};
+ghost use Rattle.std.specs.Prelude.{◌≡◌, ℕ, true};
 ghost use Rattle.bus_words.specs.Bus.{has_ended, standing_of};
 ghost use Rattle.sb_calls.specs.Core.{state_of};
 ghost use Rattle.tbl_words.specs.Tables.{has_ended as has_ended_at_tables};
@@ -71,6 +71,26 @@ impl<'e, 'r> Promise<Done> for Ends<'e, 'r> {
     ghost use Rattle.thread_run.specs.Kept.{KeptBy};
 
     ghost kept_by = { KeptBy };
+}
+
+/// A promise of one application of a run.
+pub(crate) trait OfRun {
+    /// How many applications the run has.
+    ghost run_apps: { Self → ℕ };
+
+    /// How many applications the run has.
+    fn apps(&self) -> u32
+        ensures { result ≡ Self.run_apps self.now };
+}
+
+impl<'e, 'r> OfRun for Ends<'e, 'r> {
+    ghost use Rattle.std.specs.Prelude.{length};
+
+    ghost run_apps = { λ ends. length ends.shared.script.now.apps };
+
+    fn apps(&self) -> u32 {
+        self.shared.script.apps()
+    }
 }
 
 /// An application's run, as its thread is given it: in one value, which the thread's closure moves
