@@ -6,12 +6,14 @@ ghost use Rattle.bus_service.specs.Ports.{KeepsLongerOf};
 
 use crate::bus::{Bus, BusMain};
 use crate::ports::BusPort;
+use std::sync::Wait;
 
 impl<'r> Bus<'r> {
     /// Has the main part see what a port has seen, while no port was joined. It keeps the longer of
     /// the two histories, which has of the port's application none but the port's own entries. The
-    /// port stays as it was.
-    pub fn meet(&self, main: &mut BusMain, port: &mut BusPort<'r>)
+    /// port stays as it was. If its last look was in vain, it first sleeps until a waiting
+    /// application has news, as [`BusPort::look`] does.
+    pub fn meet<R: Wait>(&self, rt: &R, main: &mut BusMain, port: &mut BusPort<'r>)
         requires main { main.old.lock ≡ self.now }
         requires none { main.old.ended ≡ [] }
         requires port { port.old.lock ≡ self.now }
@@ -23,7 +25,7 @@ impl<'r> Bus<'r> {
             port.old.mine }
         ensures port { port.new ≡ port.old }
     {
-        self.lock.stay_awake(&mut port.seat);
+        self.lock.sleep(rt, &mut port.seat);
         self.lock.meet(&mut main.seat, &mut port.seat);
     }
 }
