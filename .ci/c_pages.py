@@ -9,8 +9,10 @@ import sys
 from pathlib import Path
 
 TOP = Path(__file__).resolve().parent.parent
-# An application for the page's main: it ends at once.
-APPLICATION = '#include "cfe.h"\nvoid MY_APP_Main(void);\nvoid MY_APP_Main(void)\n{\n    CFE_ES_ExitApp(CFE_ES_RunStatus_APP_EXIT);\n}\n'
+# Applications for the page's main: they end at once.
+APPLICATIONS = '#include "cfe.h"\n' + ''.join(
+    f'void {name}_Main(void);\nvoid {name}_Main(void)\n{{\n    CFE_ES_ExitApp(CFE_ES_RunStatus_APP_EXIT);\n}}\n'
+    for name in ('SENSOR', 'DISPLAY'))
 
 
 def programs(page):
@@ -51,7 +53,7 @@ def main():
     if built(folder, 'my_app', [own], package('fsw_cfe')) != ''.join(f'EVS Port1 0/0/MY_APP 1: message {n}\n' for n in (1, 2, 3)):
         sys.exit('c_pages: my_app prints something else')
     for start in programs('CFE.md'):
-        built(folder, 'start', [start, APPLICATION], package('fsw_cfe'))
+        built(folder, 'start', [start, APPLICATIONS], package('fsw_cfe'))
     print('c_pages: the programs of the pages run')
 
 

@@ -19,8 +19,9 @@ PLAIN = TOP.parent / 'docs' / 'bench' / 'plain_bus.c'
 # A word, its rounds when counted, and when timed.
 ROUNDS = {'send1': (2000, 1_000_000), 'fan16': (400, 100_000), 'big': (200, 100_000), 'fanbig': (100, 50_000),
           'zc': (2000, 1_000_000), 'table': (200, 100_000), 'port1': (2000, 1_000_000), 'port2': (2000, 500_000)}
-# The most instructions of a round of the library.
+# The most instructions of a round of the library, and how many more the layer takes at most, its mutex among them.
 BOUNDS = {'send1': 745}
+MORE = {'send1': 200}
 TIMES = 5
 # What the layer's time is to be at most, beside plain_bus's.
 GOALS = {'send1': 1.2, 'fan16': 1.2, 'zc': 1.2, 'port1': 1.2, 'port2': 1.2, 'big': 1.02, 'fanbig': 1.02}
@@ -90,6 +91,9 @@ def main():
             show(word, figures, 'instructions')
             if figures.get('library', 0) > BOUNDS.get(word, float('inf')):
                 print(f'{word}: more than {BOUNDS[word]}')
+                failed = True
+            if 'library' in figures and figures['layer'] - figures['library'] > MORE.get(word, float('inf')):
+                print(f'{word}: the layer takes over {MORE[word]} more than the library')
                 failed = True
             if not is_check:
                 runs = [{column: timed(program, word) for column, program in compared.items()} for _ in range(TIMES)]

@@ -64,6 +64,12 @@ CFE_Status_t CFE_EVS_SendEvent(uint16 EventID, uint16 EventType, const char *Spe
 CFE_Status_t CFE_EVS_ResetFilter(uint16 EventID);
 CFE_Status_t CFE_EVS_ResetAllFilters(void);
 
+/* An event of each type: its id, and what SendEvent has behind the type. */
+#define CFE_EVS_SendDbg(E, ...)  CFE_EVS_SendEvent(E, CFE_EVS_EventType_DEBUG, __VA_ARGS__)
+#define CFE_EVS_SendInfo(E, ...) CFE_EVS_SendEvent(E, CFE_EVS_EventType_INFORMATION, __VA_ARGS__)
+#define CFE_EVS_SendErr(E, ...)  CFE_EVS_SendEvent(E, CFE_EVS_EventType_ERROR, __VA_ARGS__)
+#define CFE_EVS_SendCrit(E, ...) CFE_EVS_SendEvent(E, CFE_EVS_EventType_CRITICAL, __VA_ARGS__)
+
 #ifdef __cplusplus
 }
 #endif

@@ -95,6 +95,17 @@ void CFE_SB_TimeStampMsg(CFE_MSG_Message_t *MsgPtr);
 void *CFE_SB_GetUserData(CFE_MSG_Message_t *MsgPtr);
 size_t CFE_SB_GetUserDataLength(const CFE_MSG_Message_t *MsgPtr);
 
+/*
+ * Copies the text of a message's field, which may have no zero byte, into a string that has one;
+ * or, if the field is empty, the default, which may be null. Set writes a field: the text, cut to
+ * the field, and zeros behind it. Both answer how many characters they copied;
+ * CFE_SB_BAD_ARGUMENT for a null destination, one without room, and a null source of Set.
+ */
+int32 CFE_SB_MessageStringGet(char *DestStringPtr, const char *SourceStringPtr,
+                              const char *DefaultString, size_t DestMaxSize, size_t SourceMaxSize);
+int32 CFE_SB_MessageStringSet(char *DestStringPtr, const char *SourceStringPtr, size_t DestMaxSize,
+                              size_t SourceMaxSize);
+
 #ifdef __cplusplus
 }
 #endif

@@ -67,24 +67,33 @@ CFE_Status_t CFE_ES_WriteToSysLog(const char *SpecStringPtr, ...)
     va_start(arguments, SpecStringPtr);
     int length = vsnprintf(text, sizeof text, SpecStringPtr, arguments);
     va_end(arguments);
-    fputs(text, stderr);
+    /* Applications leave the line's end to cFE, or write it. */
+    size_t shown = strlen(text);
+    fprintf(stderr, "%s%s", text, shown > 0 && text[shown - 1] == '\n' ? "" : "\n");
     return length < (int)sizeof text ? CFE_SUCCESS : CFE_ES_ERR_SYS_LOG_TRUNCATED;
 }
 
+/* What a byte adds to a CRC-16 by the polynomial 0xa001: what each of its bits adds. */
+#define BIT(byte, bit, adds) ((byte) >> (bit)&1 ? (adds) : 0)
+#define ADDS(byte)                                                                               \
+    (BIT(byte, 0, 0xc0c1) ^ BIT(byte, 1, 0xc181) ^ BIT(byte, 2, 0xc301) ^ BIT(byte, 3, 0xc601) ^ \
+     BIT(byte, 4, 0xcc01) ^ BIT(byte, 5, 0xd801) ^ BIT(byte, 6, 0xf001) ^ BIT(byte, 7, 0xa001))
+#define FOUR(byte)    ADDS(byte), ADDS(byte + 1), ADDS(byte + 2), ADDS(byte + 3)
+#define SIXTEEN(byte) FOUR(byte), FOUR(byte + 4), FOUR(byte + 8), FOUR(byte + 12)
+#define HALF(byte)                                                                                 \
+    SIXTEEN(byte), SIXTEEN(byte + 16), SIXTEEN(byte + 32), SIXTEEN(byte + 48), SIXTEEN(byte + 64), \
+        SIXTEEN(byte + 80), SIXTEEN(byte + 96), SIXTEEN(byte + 112)
+
+/* Each load of a table works out its CRC. */
 uint32 CFE_ES_CalculateCRC(const void *DataPtr, size_t DataLength, uint32 InputCRC, uint32 TypeCRC)
 {
-    /* What four bits add, by the polynomial 0xa001. Each load of a table works out its CRC. */
-    static const uint16_t added[16] = {0x0000, 0xcc01, 0xd801, 0x1400, 0xf001, 0x3c00,
-                                       0x2800, 0xe401, 0xa001, 0x6c00, 0x7800, 0xb401,
-                                       0x5000, 0x9c01, 0x8801, 0x4400};
+    static const uint16_t added[256] = {HALF(0), HALF(128)};
     const uint8 *byte = DataPtr;
     uint32 crc = InputCRC;
     if (!DataPtr || TypeCRC != CFE_MISSION_ES_CRC_16)
         return 0;
-    for (size_t i = 0; i < DataLength; i++) {
-        crc = crc >> 4 ^ added[(crc ^ byte[i]) & 15];
-        crc = crc >> 4 ^ added[(crc ^ byte[i] >> 4) & 15];
-    }
+    for (size_t i = 0; i < DataLength; i++)
+        crc = crc >> 8 ^ added[(crc ^ byte[i]) & 255];
     return crc;
 }
 

@@ -15,12 +15,21 @@ struct fsw_app {
     void (*entry)(void);
 };
 
-/* What becomes of events beside the log, and the numbers that they carry. All zero at first. */
+/*
+ * What becomes of events beside the log, and the numbers that they carry. All zero at first. Events
+ * are the applications' and the bus's own (cfe_sb_events.h); of the latter only the first four of a
+ * run that say that nobody subscribes, or that a subscription stood already, and the first sixteen
+ * for a limit or a full pipe, as in cFE's usual configuration, unless all_bus_events is set.
+ */
 struct fsw_config {
-    bool sends_events;  /* each goes out as a packet, CFE_EVS_LONG_EVENT_MSG_MID */
-    bool prints_events; /* each is printed as a line, as on cFE's port 1 */
+    bool sends_events;   /* each goes out as a packet, CFE_EVS_LONG_EVENT_MSG_MID */
+    bool prints_events;  /* each is printed as a line, as on cFE's port 1 */
+    bool all_bus_events; /* the bus's own are not filtered */
     uint32_t spacecraft;
     uint32_t processor;
+    /* Stands before the names of table files: with "." /cf/x.tbl is ./cf/x.tbl, as by cFE's OS
+     * layer on POSIX. Null: nothing. It stays where it is while the program runs. */
+    const char *file_root;
 };
 
 /* Says this before fsw_run; it stays. */

@@ -20,7 +20,8 @@ enum {
     MOST_TABLES = 256,
     MOST_HANDLES = 1024,
     MOST_FILTERS = CFE_PLATFORM_EVS_MAX_EVENT_FILTERS,
-    BLOCK_SIZES = CFE_MISSION_ES_POOL_MAX_BUCKETS
+    BLOCK_SIZES = CFE_MISSION_ES_POOL_MAX_BUCKETS,
+    BUS_EVENTS = 6 /* kinds of events that the bus itself logs, numbered from 1 */
 };
 
 struct app {
@@ -28,7 +29,7 @@ struct app {
     uint32_t number; /* the core's */
     uint32_t tasks;  /* threads of it that were not joined yet */
     bool is_up;      /* it has reached its loop */
-    bool is_ending;  /* its tasks end at their next call */
+    bool is_ending;  /* so are all its tasks */
     bool has_ended;
     bool has_failed; /* it ended by an error */
     uint32_t filters;
@@ -41,7 +42,7 @@ struct task {
     pthread_t thread;
     enum task_state state;
     bool is_main;
-    bool is_ending;
+    bool is_ending; /* it ends at its next call: it was asked to, or its application was */
     struct app *app;
     void (*entry)(void);
 };
@@ -91,6 +92,8 @@ struct layer {
     struct fsw_core core;
     struct fsw_limits limits;
     struct fsw_config config;
+    uint32_t events_seen; /* events that the core had logged when the last of the bus was told */
+    uint16_t bus_events[BUS_EVENTS + 1]; /* how many of each kind there were, at most 65535 */
     uint32_t apps;
     struct app app[MOST_APPS];
     struct task task[MOST_TASKS];
@@ -107,13 +110,16 @@ extern struct layer fsw_layer;
 /* The task of this thread; null if it is of no application. */
 extern _Thread_local struct task *fsw_self;
 
+/* What is seldom called stays out of the callers' way. */
+#define FSW_SELDOM __attribute__((noinline, cold))
+
 /* Ends the calling task, which has the mutex. */
-_Noreturn void fsw_end_task(void);
+FSW_SELDOM _Noreturn void fsw_end_task(void);
 
 /* Does so if it was asked to end. */
 static inline void fsw_end_if_asked(void)
 {
-    if (fsw_self->is_ending || fsw_self->app->is_ending)
+    if (fsw_self->is_ending)
         fsw_end_task();
 }
 
@@ -124,11 +130,16 @@ static inline void fsw_end_if_asked(void)
  */
 static inline struct app *fsw_enter(void)
 {
-    if (!fsw_self)
+    const struct task *self = fsw_self;
+    if (!self)
         return NULL;
     pthread_mutex_lock(&fsw_layer.mutex);
-    fsw_end_if_asked();
-    return fsw_self->app;
+    if (self->is_ending)
+        fsw_end_task();
+    /* Each task has one; so callers test what is null for a thread of none alone. */
+    if (!self->app)
+        __builtin_unreachable();
+    return self->app;
 }
 
 static inline void fsw_leave(void)
@@ -154,8 +165,42 @@ static inline CFE_Status_t fsw_status(uint32_t status, CFE_Status_t otherwise)
     return status >> 16 == 0xc000 ? otherwise : (CFE_Status_t)status;
 }
 
-/* Wakes those who sleep on a pipe that has a message, after a send. */
-void fsw_wake(const struct fsw_sent *sent);
+/* Wakes those who sleep on a pipe that has a message. */
+FSW_SELDOM void fsw_wake_sleepers(void);
+
+/* Does so after a send. */
+static inline void fsw_wake(const struct fsw_sent *sent)
+{
+    if (sent->reached > 0 && fsw_layer.asleep)
+        fsw_wake_sleepers();
+}
+
+/* A call of the bus, if cFE tells by an event that it was refused. */
+struct fsw_asked {
+    const char *call;
+    uint16 bad_argument; /* the event for CFE_SB_BAD_ARGUMENT */
+    uint32 id;           /* the message id, or 0 */
+};
+
+/*
+ * Ends the caller's call with this status. What the bus logged of it is sent and printed where the
+ * configuration asks, and that it was refused.
+ */
+FSW_SELDOM void fsw_leave_telling(struct fsw_asked asked, uint32_t status);
+
+/* Whether the configuration asks. */
+static inline bool fsw_tells_events(void)
+{
+    return fsw_layer.config.sends_events || fsw_layer.config.prints_events;
+}
+
+static inline void fsw_leave_bus(struct fsw_asked asked, uint32_t status)
+{
+    if (fsw_tells_events())
+        fsw_leave_telling(asked, status);
+    else
+        fsw_leave();
+}
 
 /* Lets go what an application still has, before its end in the core; and its pipes, behind it. */
 void fsw_end_buffers(struct app *app);

@@ -304,3 +304,33 @@ size_t CFE_SB_GetUserDataLength(const CFE_MSG_Message_t *MsgPtr)
         return 0;
     return size_of(MsgPtr) - headers_of(MsgPtr);
 }
+
+int32 CFE_SB_MessageStringGet(char *DestStringPtr, const char *SourceStringPtr,
+                              const char *DefaultString, size_t DestMaxSize, size_t SourceMaxSize)
+{
+    if (!DestStringPtr || DestMaxSize == 0)
+        return CFE_SB_BAD_ARGUMENT;
+    size_t length = SourceStringPtr ? strnlen(SourceStringPtr, SourceMaxSize) : 0;
+    if (length == 0 && DefaultString) {
+        SourceStringPtr = DefaultString;
+        length = strlen(DefaultString);
+    }
+    if (length >= DestMaxSize)
+        length = DestMaxSize - 1;
+    if (length > 0)
+        memcpy(DestStringPtr, SourceStringPtr, length);
+    DestStringPtr[length] = '\0';
+    return (int32)length;
+}
+
+int32 CFE_SB_MessageStringSet(char *DestStringPtr, const char *SourceStringPtr, size_t DestMaxSize,
+                              size_t SourceMaxSize)
+{
+    if (!DestStringPtr || !SourceStringPtr || DestMaxSize == 0)
+        return CFE_SB_BAD_ARGUMENT;
+    size_t length =
+        strnlen(SourceStringPtr, SourceMaxSize < DestMaxSize ? SourceMaxSize : DestMaxSize);
+    memcpy(DestStringPtr, SourceStringPtr, length);
+    memset(DestStringPtr + length, 0, DestMaxSize - length);
+    return (int32)length;
+}

@@ -50,6 +50,15 @@ CFE_TIME_SysTime_t CFE_TIME_GetTime(void)
 
 /* ---- Tasks ---- */
 
+/* Has an application end: each of its tasks at its next call. */
+static void end_app(struct app *app)
+{
+    app->is_ending = true;
+    for (size_t i = 0; i < MOST_TASKS; i++)
+        if (fsw_layer.task[i].app == app)
+            fsw_layer.task[i].is_ending = true;
+}
+
 /* However a task ends, by its return or within a call. */
 static void finish_task(void *of)
 {
@@ -58,7 +67,7 @@ static void finish_task(void *of)
     fsw_end_loads(task);
     task->state = TASK_DONE;
     if (task->is_main)
-        task->app->is_ending = true;
+        end_app(task->app);
     fsw_wake_all();
     pthread_mutex_unlock(&fsw_layer.mutex);
 }
@@ -160,9 +169,9 @@ void CFE_ES_ExitApp(uint32 ExitStatus)
     if (!app)
         return;
     app->has_failed = ExitStatus > CFE_ES_RunStatus_APP_EXIT && !fsw_layer.is_stopping;
-    app->is_ending = true;
+    end_app(app);
     fsw_wake_all();
-    fsw_end_if_asked();
+    fsw_end_task();
 }
 
 /* ---- The loop of an application ---- */
@@ -256,6 +265,8 @@ static bool open_layer(const struct fsw_limits *limits)
     memset(layer->pool, 0, sizeof layer->pool);
     memset(layer->table, 0, sizeof layer->table);
     memset(layer->handle, 0, sizeof layer->handle);
+    memset(layer->bus_events, 0, sizeof layer->bus_events);
+    layer->events_seen = 0;
     layer->asleep = NULL;
     layer->limits = *limits;
     layer->buffer = calloc((size_t)limits->apps * limits->buffers + 1, sizeof *layer->buffer);
@@ -265,6 +276,8 @@ static bool open_layer(const struct fsw_limits *limits)
         free(layer->buffer);
         return false;
     }
+    /* A full log drops its oldest line, so that the bus's newest events are there to be told. */
+    fsw_set_log_mode(&layer->core, 1, 0);
     pthread_condattr_t clock;
     pthread_condattr_init(&clock);
     pthread_condattr_setclock(&clock, CLOCK_MONOTONIC);
@@ -296,7 +309,7 @@ static bool start_apps(const struct fsw_app *apps, size_t count)
     for (size_t i = 0; i < count; i++)
         if (!start_task(&fsw_layer.app[i], apps[i].entry, true)) {
             for (size_t k = 0; k < count; k++)
-                fsw_layer.app[k].is_ending = true;
+                end_app(&fsw_layer.app[k]);
             return false;
         }
     return true;

@@ -1,4 +1,5 @@
 /* sb.c: the Software Bus in cFE's names. */
+#include "cfe_sb_events.h"
 #include "layer.h"
 
 #include <errno.h>
@@ -40,7 +41,7 @@ CFE_Status_t CFE_SB_CreatePipe(CFE_SB_PipeId_t *PipeIdPtr, uint16 Depth, const c
         fsw_create_pipe(&fsw_layer.core, app->number, Depth, PipeName, strlen(PipeName), &number);
     if (status == FSW_SUCCESS)
         free_pipe()->number = *PipeIdPtr = number;
-    fsw_leave();
+    fsw_leave_bus((struct fsw_asked){"CreatePipe", CFE_SB_CR_PIPE_BAD_ARG_EID, 0}, status);
     return fsw_status(status, CFE_SB_BAD_ARGUMENT);
 }
 
@@ -125,7 +126,7 @@ static CFE_Status_t subscribe(CFE_SB_MsgId_t MsgId, CFE_SB_PipeId_t PipeId, uint
     /* An id of over 16 bits is as bad as 0. */
     uint16_t id = MsgId > UINT16_MAX ? 0 : (uint16_t)MsgId;
     uint32_t status = fsw_subscribe(&fsw_layer.core, app->number, id, PipeId, limit, scope);
-    fsw_leave();
+    fsw_leave_bus((struct fsw_asked){"Subscribe", CFE_SB_SUB_ARG_ERR_EID, MsgId}, status);
     return fsw_status(status, CFE_SB_BAD_ARGUMENT);
 }
 
@@ -153,7 +154,7 @@ CFE_Status_t CFE_SB_Unsubscribe(CFE_SB_MsgId_t MsgId, CFE_SB_PipeId_t PipeId)
         return CFE_SB_BAD_ARGUMENT;
     uint16_t id = MsgId > UINT16_MAX ? 0 : (uint16_t)MsgId;
     uint32_t status = fsw_unsubscribe(&fsw_layer.core, app->number, id, PipeId);
-    fsw_leave();
+    fsw_leave_bus((struct fsw_asked){"Unsubscribe", CFE_SB_UNSUB_ARG_ERR_EID, MsgId}, status);
     return fsw_status(status, CFE_SB_BAD_ARGUMENT);
 }
 
@@ -164,10 +165,8 @@ CFE_Status_t CFE_SB_UnsubscribeLocal(CFE_SB_MsgId_t MsgId, CFE_SB_PipeId_t PipeI
 
 /* ---- Sends ---- */
 
-void fsw_wake(const struct fsw_sent *sent)
+void fsw_wake_sleepers(void)
 {
-    if (sent->reached == 0)
-        return;
     for (struct pipe *pipe = fsw_layer.asleep; pipe; pipe = pipe->next_asleep) {
         uint32_t waiting = 0;
         fsw_waiting(&fsw_layer.core, pipe->number, &waiting);
@@ -188,6 +187,23 @@ static bool is_counted(const CFE_MSG_Message_t *message, bool is_asked)
     return is_asked && !(message->Byte[0] & 0x10);
 }
 
+FSW_SELDOM static void leave_send_telling(const CFE_MSG_Message_t *message, uint32_t status)
+{
+    struct fsw_asked asked = {"Transmit", CFE_SB_SEND_BAD_ARG_EID, 0};
+    if (message)
+        CFE_MSG_GetMsgId(message, &asked.id);
+    fsw_leave_telling(asked, status);
+}
+
+/* Ends a send of this message; null if it can't be read. */
+static inline void leave_send(const CFE_MSG_Message_t *message, uint32_t status)
+{
+    if (fsw_tells_events())
+        leave_send_telling(message, status);
+    else
+        fsw_leave();
+}
+
 CFE_Status_t CFE_SB_TransmitMsg(const CFE_MSG_Message_t *MsgPtr, bool IncrementSequenceCount)
 {
     struct fsw_sent sent;
@@ -200,7 +216,7 @@ CFE_Status_t CFE_SB_TransmitMsg(const CFE_MSG_Message_t *MsgPtr, bool IncrementS
                                    is_counted(MsgPtr, IncrementSequenceCount), &sent);
     if (status == FSW_SUCCESS)
         fsw_wake(&sent);
-    fsw_leave();
+    leave_send(MsgPtr, status);
     return fsw_status(status, CFE_SB_BAD_ARGUMENT);
 }
 
@@ -227,13 +243,13 @@ static void wake_up(struct pipe *pipe)
 /* Whether a wait goes on: not if the task or all applications were asked to end. */
 static bool is_patient(void)
 {
-    return !fsw_layer.is_stopping && !fsw_self->is_ending && !fsw_self->app->is_ending;
+    return !fsw_layer.is_stopping && !fsw_self->is_ending;
 }
 
 /* Waits on a live pipe of the caller's. A pipe that is deleted meanwhile can't be read. */
-static uint32_t wait_for_message(struct app *app, uint32_t number, int32 TimeOut,
-                                 struct fsw_message *message)
+static uint32_t wait_for_message(uint32_t number, int32 TimeOut, struct fsw_message *message)
 {
+    const struct app *app = fsw_self->app;
     struct pipe *pipe = pipe_numbered(number);
     bool is_forever = TimeOut == CFE_SB_PEND_FOREVER;
     struct timespec until = fsw_after(is_forever ? 0 : (uint32_t)TimeOut);
@@ -252,9 +268,25 @@ static uint32_t wait_for_message(struct app *app, uint32_t number, int32 TimeOut
     return status == FSW_SUCCESS ? status : (uint32_t)CFE_SB_PIPE_RD_ERR;
 }
 
-CFE_Status_t CFE_SB_ReceiveBuffer(CFE_SB_Buffer_t **BufPtr, CFE_SB_PipeId_t PipeId, int32 TimeOut)
+/* Goes on with a receive that was refused, or found no message. */
+FSW_SELDOM static CFE_Status_t receive_later(CFE_SB_Buffer_t **BufPtr, CFE_SB_PipeId_t PipeId,
+                                             int32 TimeOut, uint32_t status)
 {
     struct fsw_message message = {NULL, 0, 0};
+    if (status == FSW_SB_NO_MESSAGE && TimeOut != CFE_SB_POLL)
+        status = wait_for_message(PipeId, TimeOut, &message);
+    if (status == FSW_SB_BAD_ARGUMENT)
+        fsw_leave_bus((struct fsw_asked){"ReceiveBuffer", CFE_SB_BAD_PIPEID_EID, 0}, status);
+    else
+        fsw_leave();
+    if (status == FSW_SUCCESS)
+        *BufPtr = (CFE_SB_Buffer_t *)(uintptr_t)message.at;
+    return fsw_status(status, CFE_SB_BAD_ARGUMENT);
+}
+
+CFE_Status_t CFE_SB_ReceiveBuffer(CFE_SB_Buffer_t **BufPtr, CFE_SB_PipeId_t PipeId, int32 TimeOut)
+{
+    struct fsw_message message;
     if (!BufPtr)
         return CFE_SB_BAD_ARGUMENT;
     *BufPtr = NULL;
@@ -264,13 +296,12 @@ CFE_Status_t CFE_SB_ReceiveBuffer(CFE_SB_Buffer_t **BufPtr, CFE_SB_PipeId_t Pipe
     if (!app)
         return CFE_SB_BAD_ARGUMENT;
     uint32_t status = fsw_receive(&fsw_layer.core, app->number, PipeId, &message);
-    if (status == FSW_SB_NO_MESSAGE && TimeOut != CFE_SB_POLL)
-        status = wait_for_message(app, PipeId, TimeOut, &message);
+    if (status != FSW_SUCCESS)
+        return receive_later(BufPtr, PipeId, TimeOut, status);
     fsw_leave();
     /* cFE's type lets an application write there; it is not to. */
-    if (status == FSW_SUCCESS)
-        *BufPtr = (CFE_SB_Buffer_t *)(uintptr_t)message.at;
-    return fsw_status(status, CFE_SB_BAD_ARGUMENT);
+    *BufPtr = (CFE_SB_Buffer_t *)(uintptr_t)message.at;
+    return CFE_SUCCESS;
 }
 
 /* ---- Buffers ---- */
@@ -316,7 +347,8 @@ CFE_Status_t CFE_SB_TransmitBuffer(CFE_SB_Buffer_t *BufPtr, bool IncrementSequen
         fsw_transmit_buffer(&fsw_layer.core, app->number, buffer ? buffer : &none, counts, &sent);
     if (status == FSW_SUCCESS)
         fsw_wake(&sent);
-    fsw_leave();
+    /* What was sent is the bus's. */
+    leave_send(status != FSW_SUCCESS && buffer ? &BufPtr->Msg : NULL, status);
     return fsw_status(status, CFE_SB_BAD_ARGUMENT);
 }
 

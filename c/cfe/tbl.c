@@ -21,6 +21,9 @@ enum {
 /* What isn't one of the core's options. */
 enum { NO_OPTION = 3 };
 
+/* The bytes of a file's name, with what the configuration puts before it. */
+enum { MOST_PATH = 1024 };
+
 /* ---- Names and handles ---- */
 
 static struct table *table_named(const char *name)
@@ -207,9 +210,12 @@ static uint32_t number_at(const uint8_t *at)
 /* Reads a table file into a room for `size` bytes behind the headers. */
 static uint32_t read_file(const char *path, uint8_t *room, size_t size, struct fsw_image *image)
 {
-    if (strlen(path) >= OS_MAX_PATH_LEN)
+    char whole[MOST_PATH];
+    const char *root = fsw_layer.config.file_root;
+    if (strlen(path) >= OS_MAX_PATH_LEN ||
+        snprintf(whole, sizeof whole, "%s%s", root ? root : "", path) >= (int)sizeof whole)
         return (uint32_t)CFE_TBL_ERR_FILENAME_TOO_LONG;
-    FILE *file = fopen(path, "rb");
+    FILE *file = fopen(whole, "rb");
     if (!file)
         return (uint32_t)CFE_TBL_ERR_ACCESS;
     size_t length = fread(room, 1, FILE_HEADERS + size, file);

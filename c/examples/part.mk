@@ -11,16 +11,19 @@ HAS_ZMQ = $(wildcard /usr/include/zmq.h)
 
 INCLUDES += -Iexamples
 HEADERS += $(wildcard examples/*.h)
-ANALYZED += $(addprefix examples/,my_app.c $(addsuffix .c,$(MISSION) $(if $(HAS_ZMQ),$(NODE))))
-PROGRAMS += $(addprefix $(BUILD)/,my_app mission $(if $(HAS_ZMQ),sbn_node))
+ANALYZED += $(addprefix examples/,my_app.c two_apps.c sample_app_tbl.c $(addsuffix .c,$(MISSION) $(if $(HAS_ZMQ),$(NODE))))
+PROGRAMS += $(addprefix $(BUILD)/,my_app two_apps mission $(if $(HAS_ZMQ),sbn_node))
 # The programs under a sanitizer run in the whole test alone.
 SANITIZED_PROGRAMS = mission.address mission.thread $(if $(HAS_ZMQ),sbn_node.address sbn_node.thread)
-TESTS += $(addprefix $(BUILD)/,sample_test sample_test.address sample_test.thread $(if $(SHORT),,$(SANITIZED_PROGRAMS)))
+TESTS += $(addprefix $(BUILD)/,sample_app_tbl.o sample_test sample_test.address sample_test.thread $(if $(SHORT),,$(SANITIZED_PROGRAMS)))
 
 $(BUILD)/%.o: examples/test/%.c $(HEADERS) | $(BUILD)
 	$(COMPILE) -c $< -o $@
 
 $(BUILD)/my_app: $(BUILD)/my_app.o $(CFE)
+	$(CC) $(CFLAGS) -pthread -o $@ $^
+
+$(BUILD)/two_apps: $(BUILD)/two_apps.o $(CFE)
 	$(CC) $(CFLAGS) -pthread -o $@ $^
 
 $(BUILD)/mission: $(call objects,MISSION) $(CFE)

@@ -5,6 +5,7 @@
  *     layer_test FOLDER      where table files are written
  */
 #include "cfe_msgids.h"
+#include "cfe_sb_events.h"
 #include "check.h"
 #include "layer.h"
 
@@ -60,6 +61,13 @@ static CFE_SB_PipeId_t pipe_for(const char *name, CFE_SB_MsgId_t id)
     CHECK_STATUS(CFE_SB_CreatePipe(&pipe, 8, name), CFE_SUCCESS);
     CHECK_STATUS(CFE_SB_SubscribeEx(id, pipe, CFE_SB_DEFAULT_QOS, 8), CFE_SUCCESS);
     return pipe;
+}
+
+static const char *path_of(const char *name)
+{
+    static char path[OS_MAX_PATH_LEN];
+    CHECK(snprintf(path, sizeof path, "%s/%s", folder, name) < (int)sizeof path);
+    return path;
 }
 
 /* ---- Messages ---- */
@@ -163,8 +171,27 @@ static void check_secondary_headers(void)
     CHECK(sizeof(CFE_EVS_LongEventTlm_t) == 172);
 }
 
+static void check_strings(void)
+{
+    char text[5], field[6];
+    CHECK(CFE_SB_MessageStringSet(field, "four", sizeof field, 5) == 4);
+    CHECK(memcmp(field, "four\0\0", 6) == 0);
+    CHECK(CFE_SB_MessageStringSet(field, "longer text", sizeof field, 12) == 6);
+    CHECK(memcmp(field, "longer", 6) == 0);
+    CHECK(CFE_SB_MessageStringGet(text, field, NULL, sizeof text, sizeof field) == 4);
+    CHECK(strcmp(text, "long") == 0);
+    CHECK(CFE_SB_MessageStringGet(text, field, NULL, sizeof text, 3) == 3);
+    CHECK(strcmp(text, "lon") == 0);
+    CHECK(CFE_SB_MessageStringGet(text, "", "default", sizeof text, 6) == 4);
+    CHECK(strcmp(text, "defa") == 0);
+    CHECK(CFE_SB_MessageStringGet(text, NULL, NULL, sizeof text, 6) == 0 && !text[0]);
+    CHECK_STATUS(CFE_SB_MessageStringGet(text, field, NULL, 0, 6), CFE_SB_BAD_ARGUMENT);
+    CHECK_STATUS(CFE_SB_MessageStringSet(field, NULL, 6, 6), CFE_SB_BAD_ARGUMENT);
+}
+
 static void test_messages(void)
 {
+    check_strings();
     check_fields();
     check_secondary_headers();
 }
@@ -584,6 +611,141 @@ static void test_events(void)
     CHECK_STATUS(CFE_ES_WriteToSysLog(NULL), CFE_ES_BAD_ARGUMENT);
 }
 
+/* ---- The bus's own events ---- */
+
+/* The next packet is an event of the bus's; its text has the number where %u stands. */
+static void expect_bus_event(CFE_SB_PipeId_t events, uint16 id, uint16 type, const char *format,
+                             CFE_SB_PipeId_t number)
+{
+    CFE_SB_Buffer_t *buffer;
+    CFE_EVS_LongEventTlm_t packet;
+    char text[CFE_MISSION_EVS_MAX_MESSAGE_LENGTH];
+    snprintf(text, sizeof text, format, (unsigned)number);
+    CHECK_STATUS(CFE_SB_ReceiveBuffer(&buffer, events, CFE_SB_POLL), CFE_SUCCESS);
+    memcpy(&packet, buffer, sizeof packet);
+    CHECK(strcmp(packet.Payload.PacketID.AppName, "CFE_SB") == 0);
+    CHECK(packet.Payload.PacketID.EventID == id && packet.Payload.PacketID.EventType == type);
+    CHECK(strcmp(packet.Payload.Message, text) == 0);
+}
+
+/* Calls that are refused, each with an event. */
+static void check_refusal_events(CFE_SB_PipeId_t events, CFE_SB_PipeId_t pipe)
+{
+    static const uint16 error = CFE_EVS_EventType_ERROR;
+    static union {
+        CFE_SB_Buffer_t buffer;
+        uint8 bytes[40000];
+    } large;
+    CFE_MSG_Message_t *message = &large.buffer.Msg;
+    CFE_SB_PipeId_t other;
+    CFE_SB_Buffer_t *buffer;
+    CHECK_STATUS(CFE_SB_CreatePipe(&other, 8, "SMALL"), CFE_SB_PIPE_CR_ERR);
+    expect_bus_event(events, CFE_SB_CR_PIPE_ERR_EID, error,
+                     "CreatePipe refused 0xca000005 app FIRST", 0);
+    CHECK_STATUS(CFE_SB_CreatePipe(&other, 0, "OTHER"), CFE_SB_BAD_ARGUMENT);
+    expect_bus_event(events, CFE_SB_CR_PIPE_BAD_ARG_EID, error,
+                     "CreatePipe refused 0xca000003 app FIRST", 0);
+    CHECK_STATUS(CFE_SB_Subscribe(0x2000, pipe), CFE_SB_BAD_ARGUMENT);
+    expect_bus_event(events, CFE_SB_SUB_ARG_ERR_EID, error,
+                     "Subscribe id 0x2000 refused 0xca000003 app FIRST", 0);
+    CHECK_STATUS(CFE_SB_Unsubscribe(TLM_ID, 99), CFE_SB_BAD_ARGUMENT);
+    expect_bus_event(events, CFE_SB_UNSUB_ARG_ERR_EID, error,
+                     "Unsubscribe id 0x0801 refused 0xca000003 app FIRST", 0);
+    CHECK_STATUS(CFE_MSG_Init(message, TLM_ID, sizeof large), CFE_SUCCESS);
+    CHECK_STATUS(CFE_SB_TransmitMsg(message, true), CFE_SB_MSG_TOO_BIG);
+    expect_bus_event(events, CFE_SB_MSG_TOO_BIG_EID, error,
+                     "Transmit id 0x0801 refused 0xca000007 app FIRST", 0);
+    CHECK_STATUS(CFE_SB_TransmitBuffer(&large.buffer, true), CFE_SB_BUFFER_INVALID);
+    expect_bus_event(events, CFE_SB_SEND_BAD_ARG_EID, error,
+                     "Transmit refused 0xca00000e app FIRST", 0);
+    CHECK_STATUS(CFE_SB_ReceiveBuffer(&buffer, 99, CFE_SB_POLL), CFE_SB_BAD_ARGUMENT);
+    expect_bus_event(events, CFE_SB_BAD_PIPEID_EID, error,
+                     "ReceiveBuffer refused 0xca000003 app FIRST", 0);
+}
+
+static void test_bus_events(void)
+{
+    static const uint16 info = CFE_EVS_EventType_INFORMATION, error = CFE_EVS_EventType_ERROR;
+    static const char full[] = "overflow id 0x0801 pipe %u sender 1";
+    CFE_SB_PipeId_t events, pipe = pipe_for("SMALL", TLM_ID);
+    CFE_SB_Buffer_t *buffer;
+    /* The first packets have no subscriber: what the bus says of them is not sent, or none ends. */
+    CHECK_STATUS(send(OTHER_ID, 0), CFE_SUCCESS);
+    CHECK_STATUS(CFE_SB_CreatePipe(&events, 64, "EVENTS"), CFE_SUCCESS);
+    CHECK_STATUS(CFE_SB_SubscribeEx(CFE_EVS_LONG_EVENT_MSG_MID, events, CFE_SB_DEFAULT_QOS, 64),
+                 CFE_SUCCESS);
+    CHECK_STATUS(CFE_SB_Subscribe(TLM_ID, pipe), CFE_SUCCESS);
+    expect_bus_event(events, CFE_SB_DUP_SUBSCRIP_EID, info, "duplicate id 0x0801 pipe %u", pipe);
+    CHECK_STATUS(CFE_SB_Unsubscribe(OTHER_ID, pipe), CFE_SUCCESS);
+    expect_bus_event(events, CFE_SB_UNSUB_NO_SUBS_EID, info, "not subscribed id 0x0802 pipe %u",
+                     pipe);
+    /* Of messages without a subscriber the first four are told. */
+    for (uint32 i = 1; i < 6; i++) {
+        CHECK_STATUS(send(OTHER_ID, i), CFE_SUCCESS);
+        if (i < 4)
+            expect_bus_event(events, CFE_SB_SEND_NO_SUBS_EID, info, "no subscribers id 0x0802", 0);
+    }
+    CHECK_STATUS(CFE_SB_SubscribeEx(OTHER_ID, pipe, CFE_SB_DEFAULT_QOS, 2), CFE_SUCCESS);
+    for (uint32 i = 1; i <= 3; i++)
+        CHECK_STATUS(send(OTHER_ID, i), CFE_SUCCESS);
+    expect_bus_event(events, CFE_SB_MSGID_LIM_ERR_EID, error, "limit id 0x0802 pipe %u sender 1",
+                     pipe);
+    /* Of messages that a full pipe missed the first sixteen. */
+    for (uint32 i = 1; i <= 6 + 15; i++)
+        CHECK_STATUS(send(TLM_ID, i), CFE_SUCCESS);
+    buffer = CFE_SB_AllocateMessageBuffer(sizeof(tlm_t));
+    CHECK_STATUS(CFE_MSG_Init(&buffer->Msg, TLM_ID, sizeof(tlm_t)), CFE_SUCCESS);
+    CHECK_STATUS(CFE_SB_TransmitBuffer(buffer, true), CFE_SUCCESS);
+    CHECK_STATUS(send(TLM_ID, 0), CFE_SUCCESS);
+    for (int i = 0; i < 16; i++)
+        expect_bus_event(events, CFE_SB_Q_FULL_ERR_EID, error, full, pipe);
+    check_refusal_events(events, pipe);
+    CHECK_STATUS(CFE_SB_ReceiveBuffer(&buffer, events, CFE_SB_POLL), CFE_SB_NO_MESSAGE);
+}
+
+/* Messages for a pipe that drops its oldest for the new one, and an event. */
+static void overflow(void)
+{
+    CFE_SB_PipeId_t pipe;
+    CHECK_STATUS(CFE_SB_CreatePipe(&pipe, 8, "SMALL"), CFE_SUCCESS);
+    CHECK_STATUS(CFE_SB_SubscribeEx(TLM_ID, pipe, CFE_SB_DEFAULT_QOS, 9), CFE_SUCCESS);
+    CHECK_STATUS(CFE_SB_SetPipeOpts(pipe, FSW_PIPE_DROPS_OLDEST), CFE_SUCCESS);
+    for (uint32 i = 0; i < 8 + 20; i++)
+        CHECK_STATUS(send(TLM_ID, i), CFE_SUCCESS);
+    CHECK_STATUS(CFE_EVS_Register(NULL, 0, CFE_EVS_EventFilter_BINARY), CFE_SUCCESS);
+    CHECK_STATUS(CFE_EVS_SendInfo(3, "end of %d", 28), CFE_SUCCESS);
+}
+
+/* Events are printed as lines: all of the bus's, if that is configured. */
+static void check_printed_events(void)
+{
+    static const struct fsw_app app = {"FIRST", overflow};
+    const struct fsw_config config = {.prints_events = true,
+                                      .all_bus_events = true,
+                                      .spacecraft = 66,
+                                      .processor = 1};
+    struct fsw_limits limits = FSW_USUAL_LIMITS;
+    char line[100], path[OS_MAX_PATH_LEN];
+    int usual = dup(STDOUT_FILENO), lines = 0;
+    strcpy(path, path_of("printed"));
+    limits.version = 2;
+    fsw_configure(&config);
+    CHECK(usual >= 0 && freopen(path, "w", stdout));
+    int answer = fsw_run(&limits, &app, 1);
+    fflush(stdout);
+    CHECK(dup2(usual, STDOUT_FILENO) >= 0 && close(usual) == 0);
+    FILE *file = fopen(path, "r");
+    CHECK(answer == 0 && file);
+    while (fgets(line, sizeof line, file) && lines < 20) {
+        CHECK(strcmp(line, "EVS Port1 66/1/CFE_SB 100: oldest id 0x0801 pipe 1 sender 1\n") == 0);
+        lines++;
+    }
+    CHECK(strcmp(line, "EVS Port1 66/1/FIRST 3: end of 28\n") == 0 &&
+          !fgets(line, sizeof line, file));
+    fclose(file);
+    unlink(path);
+}
+
 /* ---- Tables ---- */
 
 typedef struct {
@@ -602,13 +764,6 @@ static int32 validate(void *at)
     if (table->number == 99)
         return 5;
     return table->number < 10 ? CFE_SUCCESS : -7;
-}
-
-static const char *path_of(const char *name)
-{
-    static char path[OS_MAX_PATH_LEN];
-    CHECK(snprintf(path, sizeof path, "%s/%s", folder, name) < (int)sizeof path);
-    return path;
 }
 
 /* Writes a table file: cFE's header of 64 bytes, the table's of 52, and the bytes. */
@@ -861,6 +1016,40 @@ static void share_tables(void)
     atomic_store(&phase, 4);
 }
 
+static void run(const char *name, void (*first)(void), void (*second)(void), int expected)
+{
+    const struct fsw_app apps[2] = {{"FIRST", first}, {"SECOND", second}};
+    atomic_store(&phase, 0);
+    int answer = fsw_run(NULL, apps, second ? 2 : 1);
+    if (answer != expected) {
+        fprintf(stderr, "layer_test: %s: fsw_run answers %d, not %d\n", name, answer, expected);
+        exit(1);
+    }
+}
+
+/* The file's name, as cFE's applications have it, begins at the root of the configuration. */
+static void load_from_root(void)
+{
+    CFE_TBL_Handle_t handle;
+    CFE_TBL_Info_t info;
+    CHECK_STATUS(CFE_TBL_Register(&handle, "TABLE", sizeof(table_t), CFE_TBL_OPT_DEFAULT, NULL),
+                 CFE_SUCCESS);
+    good_file(9);
+    CHECK_STATUS(CFE_TBL_Load(handle, CFE_TBL_SRC_FILE, "/table.tbl"), CFE_SUCCESS);
+    CHECK(number_of(handle, CFE_TBL_INFO_UPDATED) == 9);
+    CHECK_STATUS(CFE_TBL_GetInfo(&info, "FIRST.TABLE"), CFE_SUCCESS);
+    CHECK(strcmp(info.LastFileLoaded, "/table.tbl") == 0);
+    CHECK_STATUS(CFE_TBL_Load(handle, CFE_TBL_SRC_FILE, "/none.tbl"), CFE_TBL_ERR_ACCESS);
+}
+
+static void check_file_root(void)
+{
+    const struct fsw_config rooted = {.file_root = folder}, plain = {.file_root = NULL};
+    fsw_configure(&rooted);
+    run("file root", load_from_root, NULL, 0);
+    fsw_configure(&plain);
+}
+
 /* ---- Runs ---- */
 
 static void go_on_until_stop(void)
@@ -926,17 +1115,6 @@ static void check_refused_runs(void)
     CHECK(OS_TaskDelay(1) == OS_SUCCESS);
 }
 
-static void run(const char *name, void (*first)(void), void (*second)(void), int expected)
-{
-    const struct fsw_app apps[2] = {{"FIRST", first}, {"SECOND", second}};
-    atomic_store(&phase, 0);
-    int answer = fsw_run(NULL, apps, second ? 2 : 1);
-    if (answer != expected) {
-        fprintf(stderr, "layer_test: %s: fsw_run answers %d, not %d\n", name, answer, expected);
-        exit(1);
-    }
-}
-
 int main(int argc, char **argv)
 {
     const struct fsw_config config = {.sends_events = true,
@@ -953,9 +1131,12 @@ int main(int argc, char **argv)
     run("tasks", test_tasks, NULL, 0);
     run("pools", test_pools, take_blocks, 0);
     run("events", test_events, NULL, 0);
+    run("bus events", test_bus_events, NULL, 0);
     run("tables", test_tables, share_tables, 0);
     run("stop", go_on_until_stop, stop, 0);
     run("failure", fail, succeed, 1);
+    check_printed_events();
+    check_file_root();
     CHECK(CFE_ES_CalculateCRC("123456789", 9, 0, CFE_MISSION_ES_CRC_16) == 0xbb3d);
     unlink(path_of("table.tbl"));
     printf("layer_test passed\n");

@@ -1,4 +1,5 @@
 """Plays an ordinary ground tool for ground_link: commands by UDP, telemetry back, every packet read by tshark where there is one.
+The tables that it has loaded are files of table_file.py.
 
     ground_test.py PROGRAM ..      the command that runs mission; ports are appended where 1234 and 1235 are taken
 """
@@ -10,12 +11,15 @@ import socket
 import struct
 import subprocess
 import sys
+import tempfile
 import time
 from pathlib import Path
 
 TOP = Path(__file__).resolve().parents[3]
 CMD, SEND_HK, HK, EVENTS = 0x1882, 0x1883, 0x0883, 0x0808
 SECONDS = 60
+# The table of sample_app's, compiled; it stands beside the program.
+OBJECT = Path(sys.argv[-1]).resolve().parent / 'sample_app_tbl.o'
 
 
 def packet(ident, code, count, argument=b''):
@@ -82,6 +86,33 @@ class Ground:
         return struct.unpack('<BBH', self.receive(HK)[:4])
 
 
+def table_file(*words, **more):
+    run = subprocess.run([sys.executable, TOP / 'c' / 'table_file.py', *map(str, words)], capture_output=True, check=False, **more)
+    return run.returncode, run.stdout, run.stderr.decode()
+
+
+def load_tables(ground):
+    """Two files for sample_app's table, by values and from bytes; one for another table; one of its source; and what is none."""
+    with tempfile.TemporaryDirectory() as folder:
+        file = Path(folder) / 'sample.tbl'
+        for words, table, event in (
+                (['SAMPLE_APP.SampleAppTable', '--as', 'HH', 9, 0x10], struct.pack('HH', 9, 16), f'SAMPLE: {file} loaded'),
+                (['SAMPLE_APP.SampleAppTable', '-'], struct.pack('HH', 4, 5), f'SAMPLE: {file} loaded'),
+                (['SAMPLE_APP.Other', '--as', 'HH', 1, 1], struct.pack('HH', 1, 1), f'SAMPLE: {file} not loaded, 0xcc000020')):
+            expect(table_file('make', file, *words, input=table), (0, b'', ''))
+            expect(table_file('bytes', file), (0, table, ''))
+            shown = dict(line.split(maxsplit=1) for line in table_file('show', file)[1].decode().splitlines() if ' ' in line.strip())
+            expect([shown[key].strip() for key in ('content', 'subtype', 'bytes', 'table')], ['cFE1', '8', '4', words[0]])
+            ground.command(CMD, 4, str(file).encode().ljust(64, b'\0'))
+            ground.event(event)
+        ground.command(CMD, 2)
+        ground.event('SAMPLE: sum 9')
+        expect(table_file('object', OBJECT, cwd=folder), (0, b'', ''))
+        expect(table_file('bytes', Path(folder) / 'sample_app.tbl'), (0, struct.pack('HH', 3, 8), ''))
+        file.write_bytes(file.read_bytes()[:-1])
+        expect(table_file('show', file), (1, b'', f'table_file: {file}: 3 bytes, where the header says 4\n'))
+
+
 def expect(found, wanted):
     if found != wanted:
         sys.exit(f'ground_test: {found}, not {wanted}')
@@ -117,6 +148,8 @@ def play(ground):
         ground.command(CMD, 0)
         ground.event('SAMPLE: NOOP command')
     expect(ground.housekeeping(), (1, 53, 3))
+    load_tables(ground)
+    expect(ground.housekeeping(), (2, 56, 9))
     counts = [fields_of(data)['seqnum'] for data in ground.seen if fields_of(data)['apid'] == EVENTS & 0x7FF]
     expect(counts, list(range(counts[0], counts[0] + len(counts))))
 
