@@ -1,5 +1,5 @@
 //! What each application does.
-ghost use Rattle.std.specs.Prelude.{◌≤◌, ◌∷◌, []};
+ghost use Rattle.std.specs.Prelude.{◌≡◌, ◌≤◌, ◌∷◌, []};
 ghost use Rattle.journal_store.specs.Budgets.{AreBudgets};
 
 use fsw_base::Budget;
