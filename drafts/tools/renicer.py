@@ -15,13 +15,13 @@ while True:
         try: cwd=os.readlink(f'/proc/{p}/cwd')
         except OSError: continue
         name=c[c.index('--crate-name')+1] if '--crate-name' in c else ''
-        m=re.match(r'/work/w/([A-Za-z0-9_]+)',cwd)
+        m=re.match(r"/work/w/([A-Za-z0-9_]+)",cwd) or re.match(r"/tmp/(c2)/",cwd)
         if not m:
             try:
                 pp=re.search(r'PPid:\s+(\d+)',read(f'/proc/{p}/status'))[1]
                 m=re.match(r'/work/w/([A-Za-z0-9_]+)',os.readlink(f'/proc/{pp}/cwd'))
             except (OSError,TypeError): pass
-        who=m[1] if m else 'tmp' if cwd.startswith('/tmp') else '?'
+        who='base' if cwd.startswith('/tmp/rt-copy') else m[1] if m else 'tmp' if cwd.startswith('/tmp') else '?'
         v=want.get(f'{who}/{name}',want.get(who,want.get('*',5)))
         try:
             if os.getpriority(os.PRIO_PROCESS,int(p))!=v:
