@@ -128,6 +128,8 @@ work-opened script bus tables app n main tables_main work small small_tables fir
       tables_app = ap (λ (p : TablesPortView). p.app) tables_port;
     } in
     record {
+      before = ap (λ (p : PortView). p.seen) port ∙ o.before;
+      none = ap (λ (p : PortView). p.mine) port;
       ports = ports;
       between = between-opened script bus tables app work.runner work.port work.tables_port small small_tables first last begins ports
           (ap (λ (p : PortView). p.seen) port ∙ o.before) (ap (λ (p : TablesPortView). p.seen) tables_port ∙ k.before)

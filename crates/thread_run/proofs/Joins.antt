@@ -76,14 +76,14 @@ module _ {E : Type 0} (own : ℕ → List E → List E) (P : ℕ → Done → Ty
 
 -- Joins. --
 
-begins-trans : (one two three : Core) → Begins one two → Begins two three → Begins one three
+pub begins-trans : (one two three : Core) → Begins one two → Begins two three → Begins one three
 begins-trans one two three first then = record {
   entries = prefix_trans one.log.entries two.log.entries three.log.entries first.entries then.entries;
   notes = prefix_trans one.notes two.notes three.notes first.notes then.notes;
 }
 
 -- both begin the longer one, whose limits and budgets are the first one's
-begins-longer : (one other kept : Core) → KeepsLongerOf one other kept → Begins one kept × Begins other kept
+pub begins-longer : (one other kept : Core) → KeepsLongerOf one other kept → Begins one kept × Begins other kept
 begins-longer one other kept (inl longer) =
     subst (λ core. Begins one core × Begins other core) (sym longer.1)
     (record { entries = longer.0.entries; notes = longer.0.notes }, record { entries = prefix_self other.log.entries; notes = prefix_self other.notes })
@@ -171,14 +171,14 @@ open-joined_at_tables script lock main o = record {
 
 -- Closes. --
 
-module _ (script : ScriptText) (bus tables : TableId) (ds : List Done) (all : Numbered (IsDone script bus tables) 1 ds) (count : length ds ≡ length script.apps) where
-  pub bus-joined : (main : MainView) → IsJoined script bus ds main → All (Contains (map (λ (e : ℕ × List Entry). e.0) main.ended)) main.apps
-  bus-joined main j =
+module _ (script : ScriptText) (bus tables : TableId) (ds : List Done) (all : Numbered (IsDone script bus tables) 1 ds) where
+  pub bus-joined : (count : length ds ≡ length script.apps) (main : MainView) → IsJoined script bus ds main → All (Contains (map (λ (e : ℕ × List Entry). e.0) main.ended)) main.apps
+  bus-joined count main j =
       subst (λ l. All (Contains (map (λ (e : ℕ × List Entry). e.0) l)) main.apps) (sym j.joined)
       (all-named own_entries (IsDone script bus tables) (λ d. d.port.app) (λ d. d.port.mine) (λ app d p. p.bus_app) (length script.apps) main.apps ds j.made count all)
 
-  pub tables-joined : (main : TablesMainView) → AreJoined script tables ds main → All (Contains (map (λ (e : ℕ × List TableEntry). e.0) main.ended)) main.apps
-  tables-joined main j =
+  pub tables-joined : (count : length ds ≡ length script.apps) (main : TablesMainView) → AreJoined script tables ds main → All (Contains (map (λ (e : ℕ × List TableEntry). e.0) main.ended)) main.apps
+  tables-joined count main j =
       subst (λ l. All (Contains (map (λ (e : ℕ × List TableEntry). e.0) l)) main.apps) (sym j.joined)
       (all-named own_table_entries (IsDone script bus tables) (λ d. d.tables_port.app) (λ d. d.tables_port.mine) (λ app d p. p.tables_app) (length script.apps) main.apps ds j.made count all)
 
@@ -209,8 +209,8 @@ module _ (script : ScriptText) (bus tables : TableId) (ds : List Done) (all : Nu
         subst (λ l. IsLegalAtTables l (length script.apps) table_core.log.entries) closed-table_limits
         (subst (λ n. IsLegalAtTables table_core.limits n table_core.log.entries) closed-table_apps legal_tables)
 
-    pub closed-merges : Merges script (histories_of core table_core)
-    closed-merges = record {
+    pub closed-merges : length ds ≡ length script.apps → Merges script (histories_of core table_core)
+    closed-merges count = record {
       each = λ app low high.
           each-at own_entries (IsDone script bus tables) (λ d. d.port.app) (λ d. d.port.mine) (λ n d p. p.bus_app)
           (λ n es. Trace first_registers first_written (app_at script n).lines es) (λ n d p. p.trace) core.log.entries 1 app ds all
@@ -226,11 +226,11 @@ module _ (script : ScriptText) (bus tables : TableId) (ds : List Done) (all : Nu
           closed-legal_tables;
     }
 
-    pub closed-run : IsRunOf script (histories_of core table_core)
-    closed-run = record { legal = closed-legal; legal_tables = closed-legal_tables; merges = closed-merges }
+    pub closed-run : length ds ≡ length script.apps → IsRunOf script (histories_of core table_core)
+    closed-run count = record { legal = closed-legal; legal_tables = closed-legal_tables; merges = closed-merges count }
 
     -- the receipts of each: what followed its end was some entries, of which `told` speaks
-    told-at : (first : ℕ) (xs : List Done) → Numbered (IsDone script bus tables) first xs → All (λ (d : Done). Begins d.port.seen main.seen) xs →
+    pub told-at : (first : ℕ) (xs : List Done) → Numbered (IsDone script bus tables) first xs → All (λ (d : Done). Begins d.port.seen main.seen) xs →
         All (λ (d : Done). BeginsAtTables d.tables_port.seen tables_main.seen) xs →
         map (λ (d : Done). d.receipts.receipts) xs ≡ map (receipts_told script (histories_of core table_core)) (range_with_len first (length xs))
     told-at first [] done begun table_begun = refl
@@ -248,5 +248,5 @@ module _ (script : ScriptText) (bus tables : TableId) (ds : List Done) (all : Nu
         (told-at (first + 1) xs done.1 (All-tail (λ (x : Done). Begins x.port.seen main.seen) d xs begun)
         (All-tail (λ (x : Done). BeginsAtTables x.tables_port.seen tables_main.seen) d xs table_begun))
 
-    pub closed-receipts : map (λ (d : Done). d.receipts.receipts) ds ≡ map (receipts_told script (histories_of core table_core)) (range_with_len 1 (length script.apps))
-    closed-receipts = told-at 1 ds all j.begun k.begun ∙ ap (λ n. map (receipts_told script (histories_of core table_core)) (range_with_len 1 n)) count
+    pub closed-receipts : length ds ≡ length script.apps → map (λ (d : Done). d.receipts.receipts) ds ≡ map (receipts_told script (histories_of core table_core)) (range_with_len 1 (length script.apps))
+    closed-receipts count = told-at 1 ds all j.begun k.begun ∙ ap (λ n. map (receipts_told script (histories_of core table_core)) (range_with_len 1 n)) count

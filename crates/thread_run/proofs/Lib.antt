@@ -4,3 +4,5 @@ pub mod FirstTurns
 pub mod Joins
 pub mod Numbers
 pub mod Ways
+pub mod FreshPorts
+pub mod Wholes

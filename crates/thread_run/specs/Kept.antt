@@ -10,31 +10,32 @@ use Rattle.thread_run.specs.declared.starts.Place.{Place}
 use Rattle.thread_run.specs.declared.starts.Place.TheVariants.{OnThread, Here}
 use Rattle.thread_run.specs.declared.works.Done.{Done}
 use Rattle.thread_run.specs.declared.works.Ends.{Ends}
+use Rattle.thread_run.specs.Whole.{whole}
 use Rattle.thread_run.specs.Works.{IsDone}
 
 -- it ends, and is through
 abbrev pub KeptBy : Ends → Done → Type 0
 KeptBy ends done =
-    IsDone ends.shared.script.now ends.shared.bus.now ends.shared.tables.now ends.app done
+    IsDone (whole ends.shared) ends.shared.bus.now ends.shared.tables.now ends.app done
 
 -- the promise of this application of this run
 pub record EndsFor (script : ScriptText) (bus tables : TableId) (app : ℕ)
     (ends : Ends) : Type 0 where
-  pub script_is : ends.shared.script.now ≡ script
+  pub script_is : whole ends.shared ≡ script
   pub bus_is : ends.shared.bus.now ≡ bus
   pub tables_is : ends.shared.tables.now ≡ tables
   pub app_is : ends.app ≡ app
 
 -- what comes of an application that was begun: what its thread promised, or what it left in the
 -- caller's place
-abbrev pub Comes : {P : Type 0} → (P → Done → Type 0) → Place P → Done → Type 0
+abbrev pub Comes : {D P : Type 0} → (P → D → Type 0) → Place D P → D → Type 0
 Comes kept (OnThread handle) done = kept handle.promise done
 Comes kept (Here left) done = done ≡ left
 
 -- an application's start and where it runs: on the thread that was started, or in the caller's
 -- place, by what was handed back
-abbrev pub BeginsAs : {P F : Type 0} → (F → Done → Type 0) →
-    Result (PromisedHandle Done P) (SpawnError F) → Place P → Type 0
+abbrev pub BeginsAs : {D P F : Type 0} → (F → D → Type 0) →
+    Result (PromisedHandle D P) (SpawnError F) → Place D P → Type 0
 BeginsAs gives (Ok handle) (OnThread same) = same ≡ handle
 BeginsAs gives (Ok handle) (Here done) = ⊥
 BeginsAs gives (Err refused) (OnThread handle) = ⊥
@@ -42,12 +43,12 @@ BeginsAs gives (Err refused) (Here done) = gives refused.value done
 
 -- the application runs in a place where it is this one of this run: on a thread with its promise,
 -- or it is through
-abbrev pub RunsIn : ScriptText → TableId → TableId → ℕ → Place Ends → Type 0
+abbrev pub RunsIn : ScriptText → TableId → TableId → ℕ → Place Done Ends → Type 0
 RunsIn script bus tables app (OnThread handle) = EndsFor script bus tables app handle.promise
 RunsIn script bus tables app (Here done) = IsDone script bus tables app done
 
 -- the application of this number was begun
-abbrev pub IsBegun : ScriptText → TableId → TableId → ℕ → Begun Ends → Type 0
+abbrev pub IsBegun : ScriptText → TableId → TableId → ℕ → Begun Done Ends → Type 0
 IsBegun script bus tables app begun = RunsIn script bus tables app begun.place
 
 -- both lists are empty, and have room for so many applications

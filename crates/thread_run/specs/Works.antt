@@ -11,6 +11,7 @@ use Rattle.script_runs.specs.TableTrace.{TableTrace, first_handles}
 use Rattle.script_runs.specs.Told.{receipts_told}
 use Rattle.script_runs.specs.Trace.{Trace, first_registers}
 use Rattle.script_runs.specs.Written.{first_written}
+use Rattle.app_run.specs.Openings.{opened}
 use Rattle.app_run.specs.Runners.{Progress}
 use Rattle.app_run.specs.Turns.{services_of, with_bags}
 use Rattle.thread_run.specs.declared.works.Done.{Done}
@@ -34,9 +35,12 @@ pub record IsBetweenTurns (script : ScriptText) (app : ℕ) (progress : Progress
   pub own : caller.app ≡ app
   pub way : IsOnItsWay script (services_of caller) (with_bags progress caller)
 
--- the application may take its first turn, by its own ports
+-- the application may take its first turn, by its own ports; it has made no call of the bus, and
+-- seen none
 pub record MayWork (script : ScriptText) (bus tables : TableId) (app : ℕ)
     (work : Work) : Type 0 where
+  pub before : work.port.seen ≡ opened script
+  pub none : work.port.mine ≡ []
   pub ports : AreItsPorts bus tables app work.port work.tables_port
   pub between : IsBetweenTurns script app work.runner (caller_of work.port work.tables_port)
   pub goes_on : work.runner.ended ≡ false

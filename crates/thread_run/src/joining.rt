@@ -2,11 +2,13 @@
 ghost use Rattle.std.specs.Prelude.{◌≡◌, ◌≤◌, ◌++◌, [], length, map, vec_capacity};
 ghost use Rattle.std.specs.List.{range_with_len};
 ghost use Rattle.app_run.specs.Runners.{histories_of};
+ghost use Rattle.bus_service.specs.Ports.{Begins};
 ghost use Rattle.sb_calls.specs.Core.{apps_of};
 ghost use Rattle.script_runs.specs.Runs.{IsRunOf};
 ghost use Rattle.script_runs.specs.Told.{receipts_told};
 ghost use Rattle.tbl_load.specs.Core.{apps_of as table_apps_of};
 ghost use Rattle.thread_run.specs.Mains.{IsOpen, AreOpen, IsJoined, AreJoined};
+ghost use Rattle.thread_run.specs.Whole.{whole};
 ghost use Rattle.thread_run.specs.Works.{IsDone, Numbered};
 
 use crate::lists::take_last_done;
@@ -51,10 +53,11 @@ pub(crate) fn close_all<'r>(
     let mut receipts = receipts;
     let shared = RunParts {
         script,
+        beside: None,
         bus: &bus,
         tables: &tables,
     };
-    join_rest(
+    join_all(
         shared,
         &mut bus_main,
         &mut tables_main,
@@ -68,24 +71,25 @@ pub(crate) fn close_all<'r>(
     }
 }
 
-// Joins those that are left, in order of number, and keeps their receipts.
-fn join_rest<'r>(
+/// Joins the ports of those that are left, in order of number, and keeps their receipts.
+pub fn join_all<'r>(
     shared: RunParts<'_, 'r>,
     bus_main: &mut BusMain,
     tables_main: &mut TblMain,
     dones: &mut Vec<Done>,
     receipts: &mut Vec<ReceiptList>,
 )
-    requires bus { IsJoined shared.script.now shared.bus.now [] bus_main.old }
-    requires tables { AreJoined shared.script.now shared.tables.now [] tables_main.old }
-    requires dones { Numbered (IsDone shared.script.now shared.bus.now shared.tables.now) 1
+    requires bus { IsJoined (whole shared) shared.bus.now [] bus_main.old }
+    requires tables { AreJoined (whole shared) shared.tables.now [] tables_main.old }
+    requires dones { Numbered (IsDone (whole shared) shared.bus.now shared.tables.now) 1
         dones.old.items }
     requires empty { receipts.old.items ≡ [] }
     requires room { length dones.old.items ≤ vec_capacity receipts.old }
-    ensures bus { IsJoined shared.entry.script.now shared.entry.bus.now dones.old.items
+    ensures bus { IsJoined (whole shared.entry) shared.entry.bus.now dones.old.items
         bus_main.new }
-    ensures tables { AreJoined shared.entry.script.now shared.entry.tables.now dones.old.items
+    ensures tables { AreJoined (whole shared.entry) shared.entry.tables.now dones.old.items
         tables_main.new }
+    ensures seen { Begins bus_main.old.seen bus_main.new.seen }
     ensures receipts { map (λ list. list.receipts) receipts.new.items ≡
         map (λ done. done.receipts.receipts) dones.old.items }
     ensures count { length receipts.new.items ≡ length dones.old.items }
@@ -94,7 +98,7 @@ fn join_rest<'r>(
     let Some(done) = take_last_done(dones, shared) else {
         return;
     };
-    join_rest(shared, bus_main, tables_main, dones, receipts);
+    join_all(shared, bus_main, tables_main, dones, receipts);
     let Done {
         port,
         tables_port,

@@ -50,10 +50,17 @@
 
 mod joining;
 mod lists;
+mod meeting;
 mod opening;
 mod run;
 mod starting;
 mod starts;
 mod works;
 
+pub use joining::join_all;
+pub use meeting::meet_works;
+pub use opening::{OpenServices, open_services, open_works};
 pub use run::run_threads;
+pub use starting::{Lists, begin_all, end_all};
+pub use starts::{AllStarted, Begun, Start, start_one};
+pub use works::{Done, Ends, RunParts, Work};

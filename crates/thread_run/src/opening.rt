@@ -1,46 +1,52 @@
 //! Opens both services for a script, and makes the ports of its applications.
-ghost use Rattle.std.specs.Prelude.{◌≡◌, ◌+◌, ◌-◌, ◌≤◌, [], length, IfOk, vec_capacity};
-ghost use Rattle.app_run.specs.Openings.{HaveRoom};
+ghost use Rattle.std.specs.Prelude.{◌≡◌, ◌+◌, ◌-◌, ◌≤◌, [], length, IfOk, IfSome, vec_capacity};
+ghost use Rattle.app_run.specs.Openings.{HaveRoom, budgets_for};
+ghost use Rattle.journal_store.specs.Budgets.{AreBudgets};
 ghost use Rattle.thread_run.specs.Mains.{IsOpen, AreOpen};
+ghost use Rattle.thread_run.specs.Whole.{whole, whole_of, CanBeBeside};
 ghost use Rattle.thread_run.specs.Works.{MayWork, Numbered};
 
 use crate::works::{RunParts, Work};
 use app_run::{Blocks, Regions, Runner, budgets_of, recall_limits};
 use app_script::Script;
 use bus_service::{Bus, BusMain};
-use fsw_base::AppNo;
+use fsw_base::{AppNo, Budget};
 use std::alloc::{AllocError, Global};
 use tbl_service::{Tables, TblMain};
 
 /// Both services before their first call, with their main parts.
 #[derive(Drop)]
-pub(crate) struct OpenServices<'r> {
+pub struct OpenServices<'r> {
     /// The software bus.
-    pub(crate) bus: Bus<'r>,
+    pub bus: Bus<'r>,
     /// Its main part.
-    pub(crate) bus_main: BusMain,
+    pub bus_main: BusMain,
     /// Table Services.
-    pub(crate) tables: Tables<'r>,
+    pub tables: Tables<'r>,
     /// Their main part.
-    pub(crate) tables_main: TblMain,
+    pub tables_main: TblMain,
 }
 
-/// Takes the memory of both services.
+/// Takes the memory of both services, for the script's applications and for the one that runs
+/// beside them, if one does, with this budget and the number behind the script's last.
 ///
 /// # Errors
 /// Where memory runs out.
-pub(crate) fn open_services<'r>(
+pub fn open_services<'r>(
     alloc: Global,
     script: &Script,
+    beside: Option<Budget>,
     regions: &'r mut Regions,
 ) -> Result<OpenServices<'r>, AllocError>
-    requires { HaveRoom regions.old script.now.limits }
-    ensures bus { IfOk result (λ opened. IsOpen script.now opened.bus 0 opened.bus_main) }
+    requires room { HaveRoom regions.old script.now.limits }
+    requires beside { IfSome beside CanBeBeside }
+    requires budgets { AreBudgets (budgets_for (whole_of script.now beside)) }
+    ensures bus { IfOk result
+        (λ opened. IsOpen (whole_of script.now beside) opened.bus 0 opened.bus_main) }
     ensures tables { IfOk result
-        (λ opened. AreOpen script.now opened.tables 0 opened.tables_main) }
+        (λ opened. AreOpen (whole_of script.now beside) opened.tables 0 opened.tables_main) }
 {
-    script.recall_ranges();
-    let budgets = budgets_of(alloc, script)?;
+    let budgets = all_budgets(alloc, script, beside)?;
     let Blocks { pool, tables, work } = regions.blocks_mut();
     let (bus, bus_main) = Bus::new(alloc, script.config(), &budgets, pool)?;
     let (tables, tables_main) = Tables::new(alloc, script.config(), &budgets, tables, work)?;
@@ -52,28 +58,49 @@ pub(crate) fn open_services<'r>(
     })
 }
 
+// What each application may add to each of the two histories, that beside the script's too.
+#[tactic(auto, using(crate::proofs::Wholes::budgets_beside))]
+fn all_budgets(
+    alloc: Global,
+    script: &Script,
+    beside: Option<Budget>,
+) -> Result<Vec<Budget>, AllocError>
+    requires { IfSome beside CanBeBeside }
+    ensures { IfOk result (λ budgets. budgets.items ≡ budgets_for (whole_of script.now beside)) }
+{
+    let mut budgets = budgets_of(alloc, script)?;
+    match beside {
+        None => Ok(budgets),
+        Some(budget) => {
+            budgets.push(budget)?;
+            Ok(budgets)
+        }
+    }
+}
+
 /// Takes the memory of all applications: of each its ports with their bags, its runner, and the
 /// room for its receipts.
 ///
 /// # Errors
 /// Where memory runs out.
-pub(crate) fn open_works<'e, 'r>(
+pub fn open_works<'e, 'r>(
     alloc: Global,
     shared: RunParts<'e, 'r>,
     bus_main: &mut BusMain,
     tables_main: &mut TblMain,
 ) -> Result<Vec<Work<'e, 'r>>, AllocError>
-    requires bus { IsOpen shared.script.now shared.bus.now 0 bus_main.old }
-    requires tables { AreOpen shared.script.now shared.tables.now 0 tables_main.old }
-    ensures bus { IfOk result (λ works. IsOpen shared.entry.script.now shared.entry.bus.now
+    requires bus { IsOpen (whole shared) shared.bus.now 0 bus_main.old }
+    requires tables { AreOpen (whole shared) shared.tables.now 0 tables_main.old }
+    ensures bus { IfOk result (λ works. IsOpen (whole shared.entry) shared.entry.bus.now
         (length shared.entry.script.now.apps) bus_main.new) }
-    ensures tables { IfOk result (λ works. AreOpen shared.entry.script.now
+    ensures tables { IfOk result (λ works. AreOpen (whole shared.entry)
         shared.entry.tables.now (length shared.entry.script.now.apps) tables_main.new) }
     ensures works { IfOk result
-        (λ works. Numbered (MayWork shared.entry.script.now shared.entry.bus.now
+        (λ works. Numbered (MayWork (whole shared.entry) shared.entry.bus.now
         shared.entry.tables.now) 1 works.items) }
     ensures all { IfOk result
         (λ works. length works.items ≡ length shared.entry.script.now.apps) }
+    ensures room { IfOk result (λ works. length works.items ≤ vec_capacity works) }
 {
     let apps = shared.script.apps();
     let mut works = Vec::with_capacity(alloc, apps as usize)?;
@@ -92,16 +119,16 @@ fn open_first<'e, 'r>(
 ) -> Result<(), AllocError>
     requires count { count ≤ length shared.script.now.apps }
     requires few { count ≤ 16 }
-    requires bus { IsOpen shared.script.now shared.bus.now 0 bus_main.old }
-    requires tables { AreOpen shared.script.now shared.tables.now 0 tables_main.old }
+    requires bus { IsOpen (whole shared) shared.bus.now 0 bus_main.old }
+    requires tables { AreOpen (whole shared) shared.tables.now 0 tables_main.old }
     requires empty { works.old.items ≡ [] }
     requires room { count ≤ vec_capacity works.old }
-    ensures bus { IfOk result (λ _. IsOpen shared.entry.script.now shared.entry.bus.now count
+    ensures bus { IfOk result (λ _. IsOpen (whole shared.entry) shared.entry.bus.now count
         bus_main.new) }
-    ensures tables { IfOk result (λ _. AreOpen shared.entry.script.now shared.entry.tables.now
+    ensures tables { IfOk result (λ _. AreOpen (whole shared.entry) shared.entry.tables.now
         count tables_main.new) }
     ensures works { IfOk result
-        (λ _. Numbered (MayWork shared.entry.script.now shared.entry.bus.now
+        (λ _. Numbered (MayWork (whole shared.entry) shared.entry.bus.now
         shared.entry.tables.now) 1 works.new.items) }
     ensures all { IfOk result (λ _. length works.new.items ≡ count) }
     ensures room { vec_capacity works.new ≡ vec_capacity works.old }
@@ -125,13 +152,13 @@ fn open_one<'e, 'r>(
 ) -> Result<Work<'e, 'r>, AllocError>
     requires some { 1 ≤ app }
     requires known { app ≤ length shared.script.now.apps }
-    requires bus { IsOpen shared.script.now shared.bus.now (app - 1) bus_main.old }
-    requires tables { AreOpen shared.script.now shared.tables.now (app - 1) tables_main.old }
-    ensures bus { IfOk result (λ _. IsOpen shared.entry.script.now shared.entry.bus.now app
+    requires bus { IsOpen (whole shared) shared.bus.now (app - 1) bus_main.old }
+    requires tables { AreOpen (whole shared) shared.tables.now (app - 1) tables_main.old }
+    ensures bus { IfOk result (λ _. IsOpen (whole shared.entry) shared.entry.bus.now app
         bus_main.new) }
-    ensures tables { IfOk result (λ _. AreOpen shared.entry.script.now shared.entry.tables.now app
+    ensures tables { IfOk result (λ _. AreOpen (whole shared.entry) shared.entry.tables.now app
         tables_main.new) }
-    ensures work { IfOk result (λ work. MayWork shared.entry.script.now shared.entry.bus.now
+    ensures work { IfOk result (λ work. MayWork (whole shared.entry) shared.entry.bus.now
         shared.entry.tables.now app work) }
 {
     recall_limits(shared.script);
@@ -148,14 +175,18 @@ fn open_one<'e, 'r>(
     })
 }
 
-// Puts an application behind those of smaller numbers.
-fn note_work<'e, 'r>(works: &mut Vec<Work<'e, 'r>>, _shared: RunParts<'_, 'r>, work: Work<'e, 'r>)
+/// Puts an application behind those of smaller numbers.
+pub(crate) fn note_work<'e, 'r>(
+    works: &mut Vec<Work<'e, 'r>>,
+    _shared: RunParts<'_, 'r>,
+    work: Work<'e, 'r>,
+)
     requires room { length works.old.items + 1 ≤ vec_capacity works.old }
-    requires works { Numbered (MayWork _shared.script.now _shared.bus.now _shared.tables.now) 1
+    requires works { Numbered (MayWork (whole _shared) _shared.bus.now _shared.tables.now) 1
         works.old.items }
-    requires work { MayWork _shared.script.now _shared.bus.now _shared.tables.now
+    requires work { MayWork (whole _shared) _shared.bus.now _shared.tables.now
         (1 + length works.old.items) work }
-    ensures works { Numbered (MayWork _shared.entry.script.now _shared.entry.bus.now
+    ensures works { Numbered (MayWork (whole _shared.entry) _shared.entry.bus.now
         _shared.entry.tables.now) 1 works.new.items }
     ensures count { length works.new.items ≡ length works.old.items + 1 }
     ensures room { vec_capacity works.new ≡ vec_capacity works.old }

@@ -59,17 +59,20 @@ pub fn run_threads<'r, R: Threads + Wait + Sync, G: Gate>(
     ensures table_apps { IfOk result
         (λ finished. table_apps_of finished.tables ≡ length script.now.apps) }
 {
-    // Does nothing; the proof learns of it what histories of a run guarantee.
+    // These do nothing; the proof learns of them what histories of a run guarantee, and that the
+    // budgets are in their ranges.
     runs_guarantee();
+    script.recall_ranges();
     let OpenServices {
         bus,
         mut bus_main,
         tables,
         mut tables_main,
-    } = open_services(alloc, script, regions)?;
+    } = open_services(alloc, script, None, regions)?;
     let receipts = Vec::with_capacity(alloc, script.apps() as usize)?;
     let shared = RunParts {
         script,
+        beside: None,
         bus: &bus,
         tables: &tables,
     };

@@ -1,6 +1,7 @@
 //! Starts all applications, each on a thread of its own, and waits for their ends.
 ghost use Rattle.std.specs.Prelude.{◌≡◌, ◌≤◌, [], length, IfOk, vec_len, vec_capacity};
 ghost use Rattle.thread_run.specs.Kept.{Comes, HaveRoomFor, IsBegun};
+ghost use Rattle.thread_run.specs.Whole.{whole};
 ghost use Rattle.thread_run.specs.Works.{IsDone, MayWork, Numbered};
 
 use crate::lists::{note_begun, note_done, take_last, take_last_begun};
@@ -15,11 +16,11 @@ use std::thread::{Scope, Threads};
 /// The lists of the applications that were begun, and of those that are through, each with room for
 /// all of a run: they are made before the first thread is started.
 #[derive(Drop)]
-pub(crate) struct Lists<'e, 'r> {
+pub struct Lists<'e, 'r> {
     /// Those that were begun.
-    pub(crate) begun: Vec<Begun<Ends<'e, 'r>>>,
+    pub begun: Vec<Begun<Done, Ends<'e, 'r>>>,
     /// What is left of those that are through.
-    pub(crate) dones: Vec<Done>,
+    pub dones: Vec<Done>,
 }
 
 impl<'e, 'r> Lists<'e, 'r> {
@@ -27,7 +28,7 @@ impl<'e, 'r> Lists<'e, 'r> {
     ///
     /// # Errors
     /// Where memory runs out.
-    pub(crate) fn new(alloc: Global, apps: usize) -> Result<Lists<'e, 'r>, AllocError>
+    pub fn new(alloc: Global, apps: usize) -> Result<Lists<'e, 'r>, AllocError>
         ensures { IfOk result (λ lists. HaveRoomFor apps lists) }
     {
         Ok(Lists {
@@ -46,10 +47,10 @@ pub(crate) fn run_all<'e, 'r, R: Threads + Wait + Sync, G: Gate>(
     works: Vec<Work<'e, 'r>>,
     lists: Lists<'e, 'r>,
 ) -> Vec<Done>
-    requires works { Numbered (MayWork shared.script.now shared.bus.now shared.tables.now) 1
+    requires works { Numbered (MayWork (whole shared) shared.bus.now shared.tables.now) 1
         works.items }
     requires room { HaveRoomFor (length works.items) lists }
-    ensures done { Numbered (IsDone shared.entry.script.now shared.entry.bus.now
+    ensures done { Numbered (IsDone (whole shared.entry) shared.entry.bus.now
         shared.entry.tables.now) 1 result.items }
     ensures all { length result.items ≡ length works.entry.items }
 {
@@ -64,10 +65,10 @@ pub(crate) fn run_all<'e, 'r, R: Threads + Wait + Sync, G: Gate>(
         thread::scope_env(),
         rt,
         move |scope| -> Vec<Done>
-            requires works { Numbered (MayWork jobs.shared.script.now jobs.shared.bus.now
+            requires works { Numbered (MayWork (whole jobs.shared) jobs.shared.bus.now
                 jobs.shared.tables.now) 1 jobs.works.items }
             requires room { HaveRoomFor (length jobs.works.items) jobs.lists }
-            ensures done { Numbered (IsDone jobs.entry.shared.script.now jobs.entry.shared.bus.now
+            ensures done { Numbered (IsDone (whole jobs.entry.shared) jobs.entry.shared.bus.now
                 jobs.entry.shared.tables.now) 1 result.items }
             ensures all { length result.items ≡ length jobs.entry.works.items }
         { run_in(scope, jobs) },
@@ -95,10 +96,10 @@ fn run_in<'s, 'x, 'e: 's, 'r: 's, R: Threads + Wait + Sync, G: Gate>(
     scope: &'s Scope<'s, &'x ()>,
     jobs: Jobs<'e, 'r, R, G>,
 ) -> Vec<Done>
-    requires works { Numbered (MayWork jobs.shared.script.now jobs.shared.bus.now
+    requires works { Numbered (MayWork (whole jobs.shared) jobs.shared.bus.now
         jobs.shared.tables.now) 1 jobs.works.items }
     requires room { HaveRoomFor (length jobs.works.items) jobs.lists }
-    ensures done { Numbered (IsDone jobs.entry.shared.script.now jobs.entry.shared.bus.now
+    ensures done { Numbered (IsDone (whole jobs.entry.shared) jobs.entry.shared.bus.now
         jobs.entry.shared.tables.now) 1 result.items }
     ensures all { length result.items ≡ length jobs.entry.works.items }
 {
@@ -113,26 +114,27 @@ fn run_in<'s, 'x, 'e: 's, 'r: 's, R: Threads + Wait + Sync, G: Gate>(
         mut begun,
         mut dones,
     } = lists;
-    let all = begin_rest(scope, rt, gate, shared, &mut works, &mut begun);
-    end_rest(rt, shared, &mut begun, &mut dones, &all);
+    let all = begin_all(scope, rt, gate, shared, &mut works, &mut begun);
+    end_all(rt, shared, &mut begun, &mut dones, &all);
     dones
 }
 
-// Starts the applications that are left, that of the greatest number first; and once all are
-// started, runs here those whose thread couldn't be started, in order of number.
-fn begin_rest<'s, 'x, 'e: 's, 'r: 's, R: Threads + Wait + Sync, G: Gate>(
+/// Starts the applications that are left, each on a thread of the scope, that of the greatest
+/// number first; and once all are started, runs here those whose thread couldn't be started, in
+/// order of number.
+pub fn begin_all<'s, 'x, 'e: 's, 'r: 's, R: Threads + Wait + Sync, G: Gate>(
     scope: &'s Scope<'s, &'x ()>,
     rt: &'e R,
     gate: &'e G,
     shared: RunParts<'e, 'r>,
     works: &mut Vec<Work<'e, 'r>>,
-    begun: &mut Vec<Begun<Ends<'e, 'r>>>,
+    begun: &mut Vec<Begun<Done, Ends<'e, 'r>>>,
 ) -> AllStarted
-    requires works { Numbered (MayWork shared.script.now shared.bus.now shared.tables.now) 1
+    requires works { Numbered (MayWork (whole shared) shared.bus.now shared.tables.now) 1
         works.old.items }
     requires empty { begun.old.items ≡ [] }
     requires room { vec_len works.old ≤ vec_capacity begun.old }
-    ensures begun { Numbered (IsBegun shared.entry.script.now shared.entry.bus.now
+    ensures begun { Numbered (IsBegun (whole shared.entry) shared.entry.bus.now
         shared.entry.tables.now) 1 begun.new.items }
     ensures all { length begun.new.items ≡ length works.old.items }
     ensures room { vec_capacity begun.new ≡ vec_capacity begun.old }
@@ -147,29 +149,29 @@ fn begin_rest<'s, 'x, 'e: 's, 'r: 's, R: Threads + Wait + Sync, G: Gate>(
         scope,
         ends,
         move || -> Done
-            requires { MayWork job.shared.script.now job.shared.bus.now job.shared.tables.now
+            requires { MayWork (whole job.shared) job.shared.bus.now job.shared.tables.now
                 job.work.runner.running.app job.work }
         { run_one(rt, gate, job) },
     );
-    let all = begin_rest(scope, rt, gate, shared, works, begun);
+    let all = begin_all(scope, rt, gate, shared, works, begun);
     let one = start.begin(&all);
     note_begun(begun, shared, app, one);
     all
 }
 
-// Waits for the ends of those that are left, in order of number.
-fn end_rest<'e, 'r, R: Threads>(
+/// Waits for the ends of those that are left, in order of number.
+pub fn end_all<'e, 'r, R: Threads>(
     rt: &R,
     shared: RunParts<'_, 'r>,
-    begun: &mut Vec<Begun<Ends<'e, 'r>>>,
+    begun: &mut Vec<Begun<Done, Ends<'e, 'r>>>,
     dones: &mut Vec<Done>,
     all: &AllStarted,
 )
-    requires begun { Numbered (IsBegun shared.script.now shared.bus.now shared.tables.now) 1
+    requires begun { Numbered (IsBegun (whole shared) shared.bus.now shared.tables.now) 1
         begun.old.items }
     requires empty { dones.old.items ≡ [] }
     requires room { length begun.old.items ≤ vec_capacity dones.old }
-    ensures dones { Numbered (IsDone shared.entry.script.now shared.entry.bus.now
+    ensures dones { Numbered (IsDone (whole shared.entry) shared.entry.bus.now
         shared.entry.tables.now) 1 dones.new.items }
     ensures all { length dones.new.items ≡ length begun.old.items }
     ensures room { vec_capacity dones.new ≡ vec_capacity dones.old }
@@ -177,7 +179,7 @@ fn end_rest<'e, 'r, R: Threads>(
     let Some(one) = take_last_begun(begun, shared) else {
         return;
     };
-    end_rest(rt, shared, begun, dones, all);
+    end_all(rt, shared, begun, dones, all);
     let done = one.end(rt, all);
     note_done(dones, shared, done);
 }

@@ -8,42 +8,42 @@
 ghost use Rattle.std.specs.Prelude.{◌≡◌, [], IfOk, IfErr};
 ghost use Rattle.thread_run.specs.Kept.{BeginsAs, Comes};
 
-use crate::works::{Done, Work};
+use crate::works::Work;
 use std::thread::{Promise, PromisedHandle, Scope, SpawnError, Threads};
 
 /// A thread was asked for of each application of a run.
 #[derive(Drop)]
-pub(crate) struct AllStarted {
+pub struct AllStarted {
     // Private, so that only this file makes one.
     _none_left: (),
 }
 
 /// The start of an application: its thread, or what was handed back since none could be started.
 #[derive(Drop)]
-pub(crate) struct Start<P: Promise<Done>, F> {
+pub struct Start<D: Drop, P: Promise<D>, F> {
     // Private, so that only this file waits for the thread, or runs what was handed back.
-    start: Result<PromisedHandle<Done, P>, SpawnError<F>>,
+    start: Result<PromisedHandle<D, P>, SpawnError<F>>,
 }
 
 /// An application that was begun, once all were started.
 #[derive(Drop)]
-pub(crate) struct Begun<P: Promise<Done>> {
+pub struct Begun<D: Drop, P: Promise<D>> {
     // Private, so that only this file makes one.
-    place: Place<P>,
+    place: Place<D, P>,
 }
 
 // Where an application runs.
 #[derive(Drop)]
-enum Place<P: Promise<Done>> {
+enum Place<D: Drop, P: Promise<D>> {
     // On a thread.
-    OnThread(PromisedHandle<Done, P>),
+    OnThread(PromisedHandle<D, P>),
     // In the caller's place, where it is through.
-    Here(Done),
+    Here(D),
 }
 
 impl AllStarted {
     /// No application is left to start.
-    pub(crate) fn none_left(_works: &[Work<'_, '_>]) -> AllStarted
+    pub fn none_left(_works: &[Work<'_, '_>]) -> AllStarted
         requires { _works.now ≡ [] }
     {
         AllStarted { _none_left: () }
@@ -52,13 +52,13 @@ impl AllStarted {
 
 /// Asks for a thread of the scope for an application's run. It has no runtime, so it waits for no
 /// thread.
-pub(crate) fn start_one<'s, E, P: Promise<Done> + Drop, F: FnOnce() -> Done + Send + 's>(
+pub fn start_one<'s, E, D: Send + Drop + 's, P: Promise<D> + Drop, F: FnOnce() -> D + Send + 's>(
     scope: &Scope<'s, E>,
     promise: P,
     run: F,
-) -> Start<P, F>
+) -> Start<D, P, F>
     requires runs { F.pre run }
-    requires keeps { (done : Done) → F.post run done → P.kept_by promise done }
+    requires keeps { (done : D) → F.post run done → P.kept_by promise done }
     ensures thread { IfOk result.start (λ handle. handle.promise ≡ promise) }
     ensures handed_back { IfErr result.start (λ refused. refused.value ≡ run) }
 {
@@ -67,10 +67,10 @@ pub(crate) fn start_one<'s, E, P: Promise<Done> + Drop, F: FnOnce() -> Done + Se
     }
 }
 
-impl<P: Promise<Done>, F: FnOnce() -> Done> Start<P, F> {
+impl<D: Drop, P: Promise<D>, F: FnOnce() -> D> Start<D, P, F> {
     /// The application as it was begun, once all were started: if no thread could be started, it
     /// is run here.
-    pub(crate) fn begin(self, _all: &AllStarted) -> Begun<P>
+    pub fn begin(self, _all: &AllStarted) -> Begun<D, P>
         requires { IfErr self.start (λ refused. F.pre refused.value) }
         ensures { BeginsAs F.post self.start result.place }
     {
@@ -85,9 +85,9 @@ impl<P: Promise<Done>, F: FnOnce() -> Done> Start<P, F> {
     }
 }
 
-impl<P: Promise<Done>> Begun<P> {
+impl<D: Drop, P: Promise<D>> Begun<D, P> {
     /// Waits for the application's end, once all were started.
-    pub(crate) fn end<R: Threads>(self, rt: &R, _all: &AllStarted) -> Done
+    pub fn end<R: Threads>(self, rt: &R, _all: &AllStarted) -> D
         ensures { Comes P.kept_by self.place result }
     {
         match self.place {

@@ -8,6 +8,7 @@ ghost use Rattle.script_runs.specs.TableTrace.{own_table_entries};
 ghost use Rattle.bus_words.specs.Runs.{own_entries};
 ghost use Rattle.app_calls.specs.Callers.{SameServices};
 ghost use Rattle.app_run.specs.Turns.{MayTurn, TakesTurnBy};
+ghost use Rattle.thread_run.specs.Whole.{whole};
 ghost use Rattle.thread_run.specs.Works.{MayWork, IsDone};
 
 use app_calls::Calls;
@@ -15,7 +16,7 @@ use app_run::{Runner, Turned};
 use app_script::Script;
 use bus_service::{Bus, BusDone, BusPort};
 use bus_words::ReceiptList;
-use fsw_base::{AppNo, Gate};
+use fsw_base::{AppNo, Budget, Gate};
 use port_calls::{Locks, PortCalls};
 use sb_calls::bags_stay;
 use std::marker::Brand;
@@ -26,45 +27,48 @@ use tbl_service::{Tables, TblDone, TblPort};
 
 /// What all applications of a run share: the script, and both services.
 #[derive(Clone, Copy)]
-pub(crate) struct RunParts<'e, 'r> {
+pub struct RunParts<'e, 'r> {
     /// The script.
-    pub(crate) script: &'e Script,
+    pub script: &'e Script,
+    /// What the one may add to each journal that runs beside them, if one does. It has the number
+    /// behind the script's last.
+    pub beside: Option<Budget>,
     /// The software bus.
-    pub(crate) bus: &'e Bus<'r>,
+    pub bus: &'e Bus<'r>,
     /// Table Services.
-    pub(crate) tables: &'e Tables<'r>,
+    pub tables: &'e Tables<'r>,
 }
 
 /// What an application takes along to its thread.
 #[derive(Drop)]
-pub(crate) struct Work<'s, 'r> {
+pub struct Work<'s, 'r> {
     /// How far it has come.
-    pub(crate) runner: Runner<'s>,
+    pub runner: Runner<'s>,
     /// Its port of the bus.
-    pub(crate) port: BusPort<'r>,
+    pub port: BusPort<'r>,
     /// Its port of the tables.
-    pub(crate) tables_port: TblPort<'r>,
+    pub tables_port: TblPort<'r>,
 }
 
 /// What is left of an application that is through. It names no lifetime, so a thread may promise
 /// it.
 #[derive(Drop)]
-pub(crate) struct Done {
+pub struct Done {
     /// Its port of the bus, finished.
-    pub(crate) port: BusDone,
+    pub port: BusDone,
     /// Its port of the tables, finished.
-    pub(crate) tables_port: TblDone,
+    pub tables_port: TblDone,
     /// Its receipts.
-    pub(crate) receipts: ReceiptList,
+    pub receipts: ReceiptList,
 }
 
 /// A thread's promise: the application ends, and its entries and receipts are those of its lines.
 #[derive(Clone, Copy)]
-pub(crate) struct Ends<'e, 'r> {
+pub struct Ends<'e, 'r> {
     /// What it shares with the others.
-    pub(crate) shared: RunParts<'e, 'r>,
+    pub shared: RunParts<'e, 'r>,
     /// The application.
-    pub(crate) app: AppNo,
+    pub app: AppNo,
 }
 
 impl<'e, 'r> Promise<Done> for Ends<'e, 'r> {
@@ -86,9 +90,9 @@ pub(crate) struct Job<'e, 'r> {
 /// Runs an application to its end, on the thread that calls this. It may wait for others' turns and
 /// for their messages.
 pub(crate) fn run_one<'e, 'r, R: Wait, G: Gate>(rt: &R, gate: &G, job: Job<'e, 'r>) -> Done
-    requires { MayWork job.shared.script.now job.shared.bus.now job.shared.tables.now
+    requires { MayWork (whole job.shared) job.shared.bus.now job.shared.tables.now
         job.work.runner.running.app job.work }
-    ensures { IsDone job.entry.shared.script.now job.entry.shared.bus.now
+    ensures { IsDone (whole job.entry.shared) job.entry.shared.bus.now
         job.entry.shared.tables.now job.entry.work.runner.running.app result }
 {
     let Job { shared, work } = job;
@@ -104,9 +108,9 @@ fn run_by<'r, L: Locks, R: Wait, G: Gate>(
 ) -> Done
     requires bus { shared.bus.now ≡ L.bus }
     requires tables { shared.tables.now ≡ L.tables }
-    requires may { MayWork shared.script.now shared.bus.now shared.tables.now
+    requires may { MayWork (whole shared) shared.bus.now shared.tables.now
         work.runner.running.app work }
-    ensures { IsDone shared.entry.script.now shared.entry.bus.now shared.entry.tables.now
+    ensures { IsDone (whole shared.entry) shared.entry.bus.now shared.entry.tables.now
         work.entry.runner.running.app result }
 {
     let Work {

@@ -1,13 +1,14 @@
 use Rattle.std.proofs.Common.{◌+◌, length, IfSome}
 use Rattle.std.proofs.lemmas.Option.{IfSome_then}
+use Rattle.thread_run.specs.Whole.{whole}
 use Rattle.thread_run.specs.Works.{IsDone, Numbered}
 use Rattle.thread_run.proofs.Numbers.{numbered-taken}
 use Rattle.thread_run.proofs.lists.take_last_done.Goals as goal
 
-taken : (c : goal.After-pop) → IfSome c.pop.result (λ x. Numbered (IsDone c.args._shared.script.now c.args._shared.bus.now c.args._shared.tables.now) 1 c.pop.new.self.items
-    × IsDone c.args._shared.script.now c.args._shared.bus.now c.args._shared.tables.now (1 + length c.pop.new.self.items) x)
+taken : (c : goal.After-pop) → IfSome c.pop.result (λ x. Numbered (IsDone (whole c.args._shared) c.args._shared.bus.now c.args._shared.tables.now) 1 c.pop.new.self.items
+    × IsDone (whole c.args._shared) c.args._shared.bus.now c.args._shared.tables.now (1 + length c.pop.new.self.items) x)
 taken c =
-    numbered-taken (IsDone c.args._shared.script.now c.args._shared.bus.now c.args._shared.tables.now) 1 c.args.dones.now.items c.pop.new.self.items c.pop.result c.pop.ensures.items c.requires.dones
+    numbered-taken (IsDone (whole c.args._shared) c.args._shared.bus.now c.args._shared.tables.now) 1 c.args.dones.now.items c.pop.new.self.items c.pop.result c.pop.ensures.items c.requires.dones
 
 pub returns-clause-is : goal.returns-clause-is
 returns-clause-is c = IfSome_then c.pop.result (taken c) (λ x is. is.1)

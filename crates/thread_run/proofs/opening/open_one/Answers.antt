@@ -1,4 +1,7 @@
-use Rattle.std.proofs.Common.{◌≡◌, ◌+◌, ◌-◌, ◌≤◌, ℕ, suc, refl, arith}
+use Rattle.std.proofs.Common.{◌≡◌, ◌∙◌, ◌+◌, ◌-◌, ◌≤◌, ℕ, suc, refl, sym, subst, arith}
+use Rattle.fsw_base.specs.Limits.{Limits}
+use Rattle.thread_run.specs.Whole.{whole}
+use Rattle.thread_run.proofs.Wholes.{limits-whole, apps-within, beginning-whole}
 use Rattle.thread_run.proofs.Numbers.{not-yet}
 use Rattle.thread_run.proofs.FirstTurns.{next-open, next-open_at_tables, work-opened}
 use Rattle.thread_run.proofs.opening.open_one.Goals as goal
@@ -17,17 +20,22 @@ port-requires-2-clause-new c = λ there. not-yet (c.args.app - 1) c.args.app c.a
 
 pub returns-clause-bus : goal.returns-clause-bus
 returns-clause-bus c =
-    next-open c.args.shared.script.now c.args.shared.bus.now (c.args.app - 1) c.args.app c.args.bus_main.now c.port.new.main c.requires.bus
+    next-open (whole c.args.shared) c.args.shared.bus.now (c.args.app - 1) c.args.app c.args.bus_main.now c.port.new.main c.requires.bus
     (next c.args.app c.requires.some) c.in_ok-port.ensures.apps
 
 pub returns-clause-tables : goal.returns-clause-tables
 returns-clause-tables c =
-    next-open_at_tables c.args.shared.script.now c.args.shared.tables.now (c.args.app - 1) c.args.app c.args.tables_main.now c.port-2.new.main c.requires.tables
+    next-open_at_tables (whole c.args.shared) c.args.shared.tables.now (c.args.app - 1) c.args.app c.args.tables_main.now c.port-2.new.main c.requires.tables
     (next c.args.app c.requires.some) c.in_ok-tables_port.ensures.apps
 
 pub returns-clause-work : goal.returns-clause-work
 returns-clause-work c =
-    work-opened c.args.shared.script.now c.args.shared.bus.now c.args.shared.tables.now c.args.app (c.args.app - 1) c.args.bus_main.now c.args.tables_main.now
+    let script = c.args.shared.script.now in
+    let beside = c.args.shared.beside in
+    let limits = limits-whole script beside in
+    work-opened (whole c.args.shared) c.args.shared.bus.now c.args.shared.tables.now c.args.app (c.args.app - 1) c.args.bus_main.now c.args.tables_main.now
     (record { runner = c.in_ok-runner.runner; port = c.in_ok-port.port; tables_port = c.in_ok-tables_port.tables_port })
-    c.recall_limits.ensures.small c.recall_limits.ensures.small_tables c.requires.some c.requires.known c.requires.bus c.requires.tables
-    c.in_ok-runner.ensures.beginning c.in_ok-port.ensures.port c.in_ok-tables_port.ensures.port c.recall.ensures.bag c.recall-2.ensures.bag
+    (subst (λ (l : Limits). l.msgmax ≤ 65542) (sym limits) c.recall_limits.ensures.small) (subst (λ (l : Limits). l.tablemax ≤ 65536) (sym limits) c.recall_limits.ensures.small_tables)
+    c.requires.some (apps-within script beside c.args.app c.requires.known) c.requires.bus c.requires.tables
+    (c.in_ok-runner.ensures.beginning ∙ beginning-whole script beside c.args.app c.requires.some c.requires.known)
+    c.in_ok-port.ensures.port c.in_ok-tables_port.ensures.port c.recall.ensures.bag c.recall-2.ensures.bag

@@ -1,4 +1,5 @@
 use Rattle.std.proofs.Common.{◌∙◌, sym, subst}
+use Rattle.thread_run.specs.Whole.{whole}
 use Rattle.thread_run.specs.Works.{IsBetweenTurns}
 use Rattle.thread_run.proofs.BetweenTurns.{at-bus, at-tables, is-done, may-turn, turn-on}
 use Rattle.thread_run.proofs.works.run_by.Goals as goal
@@ -22,13 +23,13 @@ pub loop-init : goal.loop-init
 loop-init g c = (
   tt,
   tt,
-  subst (λ caller. IsBetweenTurns c.args.shared.script.now c.args.work.runner.running.app c.args.work.runner caller) (sym c.new-calls.ensures) c.requires.may.between,
+  subst (λ caller. IsBetweenTurns (whole c.args.shared) c.args.work.runner.running.app c.args.work.runner caller) (sym c.new-calls.ensures) c.requires.may.between,
   c.requires.may.goes_on,
 )
 
 pub take_turn-requires-after_bounds : goal.take_turn-requires-after_bounds
 take_turn-requires-after_bounds g c κs within =
-    may-turn c.args.shared.script.now c.args.work.runner.running.app c.loop.runner c.loop.calls c.loop.invariant.2 c.loop.invariant.3
+    may-turn (whole c.args.shared) c.args.work.runner.running.app c.loop.runner c.loop.calls c.loop.invariant.2 c.loop.invariant.3
 
 pub let_go-requires-clause-ended : goal.let_go-requires-clause-ended
 let_go-requires-clause-ended g c = sym c.has_ended.ensures ∙ c.if-has_ended.true
@@ -36,17 +37,17 @@ let_go-requires-clause-ended g c = sym c.has_ended.ensures ∙ c.if-has_ended.tr
 pub let_go-requires-clause-at_bus : goal.let_go-requires-clause-at_bus
 let_go-requires-clause-at_bus g c =
     let between = turn-on _ _ _ _ c.loop.invariant.2 c.bags_stay.ensures.behind c.bags_stay-2.ensures.behind _ _ c.loop.invariant.3 c.take_turn.ensures.turn c.take_turn.ensures.same.app in
-    at-bus c.args.shared.script.now c.args.work.runner.running.app c.take_turn.new.runner c.take_turn.new.calls between (sym c.has_ended.ensures ∙ c.if-has_ended.true) c.into_ports-port.result.0 c.into_ports-port.ensures.app.0 c.into_ports-port.ensures.bus.0
+    at-bus (whole c.args.shared) c.args.work.runner.running.app c.take_turn.new.runner c.take_turn.new.calls between (sym c.has_ended.ensures ∙ c.if-has_ended.true) c.into_ports-port.result.0 c.into_ports-port.ensures.app.0 c.into_ports-port.ensures.bus.0
 
 pub let_go-requires-clause-at_tables : goal.let_go-requires-clause-at_tables
 let_go-requires-clause-at_tables g c =
     let between = turn-on _ _ _ _ c.loop.invariant.2 c.bags_stay.ensures.behind c.bags_stay-2.ensures.behind _ _ c.loop.invariant.3 c.take_turn.ensures.turn c.take_turn.ensures.same.app in
-    at-tables c.args.shared.script.now c.args.work.runner.running.app c.take_turn.new.runner c.take_turn.new.calls between (sym c.has_ended.ensures ∙ c.if-has_ended.true) c.into_ports-port.result.1 c.into_ports-port.ensures.app.1 c.into_ports-port.ensures.tables.0
+    at-tables (whole c.args.shared) c.args.work.runner.running.app c.take_turn.new.runner c.take_turn.new.calls between (sym c.has_ended.ensures ∙ c.if-has_ended.true) c.into_ports-port.result.1 c.into_ports-port.ensures.app.1 c.into_ports-port.ensures.tables.0
 
 pub returns-then-has_ended : goal.returns-then-has_ended
 returns-then-has_ended g c =
     let between = turn-on _ _ _ _ c.loop.invariant.2 c.bags_stay.ensures.behind c.bags_stay-2.ensures.behind _ _ c.loop.invariant.3 c.take_turn.ensures.turn c.take_turn.ensures.same.app in
-    is-done c.args.shared.script.now c.args.shared.bus.now c.args.shared.tables.now c.args.work.runner.running.app c.take_turn.new.runner c.take_turn.new.calls
+    is-done (whole c.args.shared) c.args.shared.bus.now c.args.shared.tables.now c.args.work.runner.running.app c.take_turn.new.runner c.take_turn.new.calls
     c.into_ports-port.result.0 c.into_ports-port.result.1 c.let_go.result between (sym c.has_ended.ensures ∙ c.if-has_ended.true)
     (record {
       bus_lock = c.into_ports-port.ensures.locks.0 ∙ sym c.requires.bus;

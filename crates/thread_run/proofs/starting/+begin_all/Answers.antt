@@ -1,6 +1,6 @@
 use denote.Param.Send.{IsSync, sendable}
 use Rattle.thread_run.proofs.Threads.{job_send}
-use Rattle.thread_run.proofs.starting.+begin_rest.Goals as goal
+use Rattle.thread_run.proofs.starting.+begin_all.Goals as goal
 
 -- an application's job may go to its thread
 pub start_one-start-requires-send-F : goal.start_one-start-requires-send-F
