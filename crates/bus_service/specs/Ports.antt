@@ -21,8 +21,7 @@ use Rattle.sb_calls.specs.Bags.{HasBag, CalledByOthers, AreOneLoan}
 use Rattle.core_port.specs.Ports as ports
 use Rattle.bus_service.specs.Words.{bus}
 
--- A port: the lock that it is of, its application, the core with the history that it has seen, the
--- entries that it made, and what its application holds.
+-- A port, as core_port shows one, with what its application holds.
 pub record PortView : Type 0 where
   pub lock : TableId
   pub app : ℕ
@@ -34,8 +33,7 @@ pub record PortView : Type 0 where
 abbrev pub DoneView : Type 0
 DoneView = ports.PortView Core Entry
 
--- The main part: the lock that it is of, the core with the history that it has seen, the
--- applications whose ports were made, and those whose ports were joined, each with its entries.
+-- The main part, as core_port shows it.
 abbrev pub MainView : Type 0
 MainView = ports.MainView Core Entry
 
@@ -113,10 +111,14 @@ pub record AnswersLook (old new : PortView) (pipe : ℕ) (told : Pended) : Type 
 
 -- Joins and the close. --
 
--- the history of the one begins that of the other, and so do the notes
+-- core_port's, for the bus
 abbrev pub Begins : Core → Core → Type 0
 Begins = ports.Begins bus
 
--- one of the two histories begins the other, and the longer one is kept
+-- core_port's, for the bus
+abbrev pub with_history : Core → Core → Core
+with_history = ports.with_history bus
+
+-- core_port's, for the bus
 abbrev pub KeepsLongerOf : Core → Core → Core → Type 0
 KeepsLongerOf = ports.KeepsLongerOf bus

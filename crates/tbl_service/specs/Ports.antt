@@ -13,8 +13,7 @@ use Rattle.tbl_load.specs.Bags.{HasBag, CalledByOthers, AreOneLoan}
 use Rattle.core_port.specs.Ports as ports
 use Rattle.tbl_service.specs.Words.{tables}
 
--- A port: the lock that it is of, its application, the core with the history that it has seen, the
--- entries that it made, and what its application holds.
+-- A port, as core_port shows one, with what its application holds.
 pub record PortView : Type 0 where
   pub lock : TableId
   pub app : ℕ
@@ -26,8 +25,7 @@ pub record PortView : Type 0 where
 abbrev pub DoneView : Type 0
 DoneView = ports.PortView Core Entry
 
--- The main part: the lock that it is of, the core with the history that it has seen, the
--- applications whose ports were made, and those whose ports were joined, each with its entries.
+-- The main part, as core_port shows it.
 abbrev pub MainView : Type 0
 MainView = ports.MainView Core Entry
 
@@ -63,10 +61,10 @@ KeepsOthers handle old new =
 
 -- Joins and the close. --
 
--- the history of the one begins that of the other, and so do the notes
+-- core_port's, for the tables
 abbrev pub Begins : Core → Core → Type 0
 Begins = ports.Begins tables
 
--- one of the two histories begins the other, and the longer one is kept
+-- core_port's, for the tables
 abbrev pub KeepsLongerOf : Core → Core → Core → Type 0
 KeepsLongerOf = ports.KeepsLongerOf tables
