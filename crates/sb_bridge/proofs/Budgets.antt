@@ -85,30 +85,30 @@ are-budgets_beside script budget can range some few entries bytes =
       some = omega (arith, length-append all (budget ∷ []));
       few = omega (arith, length-append all (budget ∷ []), length-map script.apps own, few);
       entries = omega (
-          arith,
-          sum_by-append (λ (b : Budget). b.entries) all (budget ∷ []),
-          sum_by-cons (λ (b : Budget). b.entries) budget [],
-          sum-map (λ (b : Budget). b.entries) own script.apps,
-          few-entries script.apps,
-          range.calls,
-          few,
-          entries,
-        );
+        arith,
+        sum_by-append (λ (b : Budget). b.entries) all (budget ∷ []),
+        sum_by-cons (λ (b : Budget). b.entries) budget [],
+        sum-map (λ (b : Budget). b.entries) own script.apps,
+        few-entries script.apps,
+        range.calls,
+        few,
+        entries,
+      );
       bytes = omega (
-          arith,
-          sum_by-append (λ (b : Budget). b.bytes) all (budget ∷ []),
-          sum_by-cons (λ (b : Budget). b.bytes) budget [],
-          sum-map (λ (b : Budget). b.bytes) own script.apps,
-          range.bytes,
-          bytes,
-        );
+        arith,
+        sum_by-append (λ (b : Budget). b.bytes) all (budget ∷ []),
+        sum_by-cons (λ (b : Budget). b.bytes) budget [],
+        sum-map (λ (b : Budget). b.bytes) own script.apps,
+        range.bytes,
+        bytes,
+      );
       buffers = omega (
-          arith,
-          sum_by-append (λ (b : Budget). b.buffers) all (budget ∷ []),
-          sum_by-cons (λ (b : Budget). b.buffers) budget [],
-          (are-budgets script range some (omega (arith, few))).buffers,
-          can.none,
-        );
+        arith,
+        sum_by-append (λ (b : Budget). b.buffers) all (budget ∷ []),
+        sum_by-cons (λ (b : Budget). b.buffers) budget [],
+        (are-budgets script range some (omega (arith, few))).buffers,
+        can.none,
+      );
     })
 
 -- those of side 1, and of side 2

@@ -86,11 +86,13 @@ module _ (shared : RunParts) (has : HasBridge shared) where
         omega (arith, ap (λ (a : Allowance). a.entries) same, ap (λ (b : Budget). b.entries) (budget-at app its), can.some)
 
     may-opened : (app : ℕ) → app ≡ bridge_of shared.script.now → MayCallTables (opened_tables (whole shared)) app table_calls.End
-    may-opened app its = record {
+    may-opened app its =
+        let allowance : Budget → Allowance = λ b. record { entries = b.entries; bytes = b.bytes } in
+        record {
       known = omega (arith, its, count);
       standing = ap not (not-ended (whole shared).limits (length (budgets_for (whole shared))) app (omega (arith, its)) (omega (arith, its, count)));
       room = record {
-        known = omega (arith, its, count, length-map (budgets_for (whole shared)) (λ (b : Budget). record { entries = b.entries; bytes = b.bytes }));
+        known = omega (arith, its, count, length-map (budgets_for (whole shared)) allowance);
         one_entry = allowed app its;
         its_bytes = omega arith;
       };

@@ -108,9 +108,9 @@ module _ (plan : PlanText) (crossing : Crossing) (done : BridgeDone) (through : 
   not-too-many many =
       let extends = side_one.extends.entries in
       let few = few_given plan p (histories_of one.bus one.tables) side_one.legal side_one.merges met.seen.log.entries extends.0 through.stopped.waits extends.1 own-first calls (subst (MakesPipe p) (sym first.whole_is) first.pipe)
-          through.stopped.first begun-count (end_entry from) refl through.stopped.begun.waited own-is in
+      through.stopped.first begun-count (end_entry from) refl through.stopped.begun.waited own-is in
       let bytes = few_bytes plan p (histories_of one.bus one.tables) side_one.legal side_one.merges met.seen.log.entries extends.0 through.stopped.waits extends.1 own-first calls (subst (MakesPipe p) (sym first.whole_is) first.pipe)
-          through.stopped.first begun-count (end_entry from) refl through.stopped.begun.waited own-is in
+      through.stopped.first begun-count (end_entry from) refl through.stopped.begun.waited own-is in
       ⊎_elim
       (λ entries. omega (arith, entries, few, ap length given-is, ap (λ (b : Budget). b.entries) most))
       (λ long. omega (arith, long, bytes, ap bytes_of given-is, ap (λ (b : Budget). b.bytes) most))

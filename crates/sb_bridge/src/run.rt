@@ -131,15 +131,11 @@ fn run_crews<'r, R: Threads + Wait + Sync, G: Gate>(
         bus_main.new }
     ensures ended { AreAllThrough plan.now one.entry.side two.entry.side bus_main.new result }
 {
-    let Crew { mut side, mut ports } = one;
-    let pipe = begin_bridge(
-        rt,
-        plan,
-        side.shared,
-        bus_main,
-        &mut ports,
-        &mut side.works,
-    );
+    let Crew {
+        mut side,
+        mut ports,
+    } = one;
+    let pipe = begin_bridge(rt, plan, side.shared, bus_main, &mut ports, &mut side.works);
     let bridge = BridgeJob {
         crossing: Crossing {
             one: side.shared,
