@@ -37,7 +37,7 @@ use Rattle.thread_run.proofs.Numbers.{in-numbers}
 use Rattle.thread_run.proofs.Wholes.{app_at-whole}
 use Rattle.bridge_plan.specs.Plan.{bridge_of}
 use Rattle.bridge_runs.specs.Sides.{AreLegal, MergesBeside}
-use Rattle.sb_bridge.specs.declared.bridge.EndedPorts.{EndedPorts}
+use Rattle.sb_bridge.specs.declared.ends.EndedPorts.{EndedPorts}
 use Rattle.sb_bridge.specs.Sides.{IsClosedSide}
 
 -- ---- what the main part of the tables has seen

@@ -29,10 +29,10 @@ use Rattle.bridge_runs.specs.Bridge.{MakesPipe, first_calls, forwarding, given_b
 use Rattle.bridge_runs.specs.Bridged.{IsBridged}
 use Rattle.bridge_runs.specs.Lefts.{bytes_of}
 use Rattle.bridge_runs.specs.Sides.{EndsAlone, side_apps}
-use Rattle.sb_bridge.specs.declared.bridge.BridgeDone.{BridgeDone}
+use Rattle.sb_bridge.specs.declared.ends.BridgeDone.{BridgeDone}
 use Rattle.sb_bridge.specs.declared.bridge.BridgePorts.{BridgePorts}
 use Rattle.sb_bridge.specs.declared.bridge.Crossing.{Crossing}
-use Rattle.sb_bridge.specs.declared.bridge.EndedPorts.{EndedPorts}
+use Rattle.sb_bridge.specs.declared.ends.EndedPorts.{EndedPorts}
 use Rattle.sb_bridge.specs.Calls.{calls_in, sends_of}
 use Rattle.sb_bridge.specs.Openings.{IsFirst}
 use Rattle.sb_bridge.specs.Ports.{given_in}

@@ -12,7 +12,7 @@ use Rattle.thread_run.specs.Works.{IsDone, Numbered}
 use Rattle.thread_run.proofs.Joins.{open-joined, open-joined_at_tables}
 use Rattle.bridge_plan.specs.Plan.{PlanText, bridge_of, script_of}
 use Rattle.sb_bridge.specs.declared.bridge.BridgePorts.{BridgePorts}
-use Rattle.sb_bridge.specs.declared.bridge.EndedPorts.{EndedPorts}
+use Rattle.sb_bridge.specs.declared.ends.EndedPorts.{EndedPorts}
 use Rattle.sb_bridge.specs.declared.crews.Crew.{Crew}
 use Rattle.sb_bridge.specs.declared.threads.DoneSide.{DoneSide}
 use Rattle.sb_bridge.specs.Crews.{IsCrewOf}

@@ -23,7 +23,7 @@ use Rattle.thread_run.specs.Works.{IsDone, MayWork, Numbered}
 use Rattle.bridge_plan.specs.Plan.{PlanText, bridge_of, script_of}
 use Rattle.bridge_plan.specs.Sends.{budget_on_one_of, budget_on_two_of}
 use Rattle.bridge_runs.specs.Sides.{AreLegal, MergesBeside}
-use Rattle.sb_bridge.specs.declared.bridge.EndedPorts.{EndedPorts}
+use Rattle.sb_bridge.specs.declared.ends.EndedPorts.{EndedPorts}
 use Rattle.sb_bridge.specs.declared.crews.ScriptSide.{ScriptSide}
 use Rattle.sb_bridge.specs.declared.threads.BegunSide.{BegunSide}
 use Rattle.sb_bridge.specs.declared.threads.DoneSide.{DoneSide}

@@ -3,8 +3,9 @@ ghost use Rattle.std.specs.Prelude.{◌≡◌};
 ghost use Rattle.sb_bridge.specs.Sides.{AreThroughOf, IsBegunSide, IsDoneSide, MayBegin};
 ghost use Rattle.sb_bridge.specs.Works.{IsThrough, MayBridge};
 
-use crate::bridge::{BridgeDone, BridgeJob, run_one};
+use crate::bridge::{BridgeJob, run_one};
 use crate::crews::ScriptSide;
+use crate::ends::BridgeDone;
 use crate::gates::GateOfTwo;
 use bus_words::ReceiptList;
 use fsw_base::Gate;

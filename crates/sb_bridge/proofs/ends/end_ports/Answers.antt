@@ -3,7 +3,7 @@ use Rattle.bus_words.specs.declared.history.Call.TheVariants.{End}
 use Rattle.bus_words.specs.Bus.{Standing}
 use Rattle.bus_words.specs.Machine.{may_call}
 use Rattle.sb_bridge.proofs.Asked.{may_plain}
-use Rattle.sb_bridge.proofs.bridge.end_ports.Goals as goal
+use Rattle.sb_bridge.proofs.ends.end_ports.Goals as goal
 
 pub end-requires-2-clause-may : goal.end-requires-2-clause-may
 end-requires-2-clause-may g c =
