@@ -12,17 +12,17 @@ pass_one-requires g c = c.loop.invariant.2.forwards
 pub end_on_one-ended-requires : goal.end_on_one-ended-requires
 end_on_one-ended-requires g c =
     let was = c.loop.invariant.2 in
-    may_end_on_one c.loop.crossing c.loop.from c.loop.to c.pass_one.new.from c.pass_one.new.to was.on_one was.on_two (c.pass_one.ensures.stops c.if-not-pass_one.true)
+    may_end_on_one c.args.job.crossing c.loop.from c.loop.to c.pass_one.new.from c.pass_one.new.to was.on_one was.on_two (c.pass_one.ensures.stops c.if-not-pass_one.true)
 
 pub end_on_two-requires : goal.end_on_two-requires
 end_on_two-requires g c =
     let was = c.loop.invariant.2 in
-    may_end_on_two c.loop.crossing c.loop.from c.loop.to c.pass_one.new.from c.pass_one.new.to was.on_one was.on_two (c.pass_one.ensures.stops c.if-not-pass_one.true)
+    may_end_on_two c.args.job.crossing c.loop.from c.loop.to c.pass_one.new.from c.pass_one.new.to was.on_one was.on_two (c.pass_one.ensures.stops c.if-not-pass_one.true)
 
 pub returns-then-not-pass_one : goal.returns-then-not-pass_one
 returns-then-not-pass_one g c =
     let was = c.loop.invariant.2 in
-    is-through c.loop.crossing c.loop.from c.loop.to c.pass_one.new.from c.pass_one.new.to was.on_one was.on_two (c.pass_one.ensures.stops c.if-not-pass_one.true)
+    is-through c.args.job.crossing c.loop.from c.loop.to c.pass_one.new.from c.pass_one.new.to was.on_one was.on_two (c.pass_one.ensures.stops c.if-not-pass_one.true)
     c.end_on_two.result (subst (EndsAs (record c.loop.from { port = c.pass_one.new.from })) (sym c.end_on_two.ensures.from) c.end_on_one-ended.ensures) c.end_on_two.ensures.to
 
 pub loop-preserved : goal.loop-preserved
@@ -33,7 +33,7 @@ loop-preserved g c =
       tt,
       record {
         forwards = on;
-        on_one = may_later_on_one c.loop.crossing c.loop.from c.loop.to c.pass_one.new.from c.pass_one.new.to was.on_one was.on_two on;
-        on_two = may_later_on_two c.loop.crossing c.loop.from c.loop.to c.pass_one.new.from c.pass_one.new.to was.on_one was.on_two on;
+        on_one = may_later_on_one c.args.job.crossing c.loop.from c.loop.to c.pass_one.new.from c.pass_one.new.to was.on_one was.on_two on;
+        on_two = may_later_on_two c.args.job.crossing c.loop.from c.loop.to c.pass_one.new.from c.pass_one.new.to was.on_one was.on_two on;
       },
     )
