@@ -27,12 +27,22 @@ returns-in-Err-clause-made g c =
     (subst (λ (r : Result ℕ SbStatus). Answers c.args.port.now c.create_pipe-made.new.self (Create c.config.result.now.depth (codes "BRIDGE")) (numbered r)) c.in-Err.is c.create_pipe-made.ensures.answers))
     c.recall.ensures.mine (inr (c.in-Err.field-0, refl))
 
-pub returns-clause-depth : goal.returns-clause-depth
-returns-clause-depth g c =
+pub returns-in-Ok-clause-depth : goal.returns-in-Ok-clause-depth
+returns-in-Ok-clause-depth g c =
     let depth = ap (λ (l : Limits). l.depth) (c.config.ensures ∙ ap (λ (s : ScriptText). s.limits) c.script.ensures) in
     omega (arith, depth, c.config.result.now.depth_in_range)
 
-pub returns-clause-pipes : goal.returns-clause-pipes
-returns-clause-pipes g c =
+pub returns-in-Ok-clause-pipes : goal.returns-in-Ok-clause-pipes
+returns-in-Ok-clause-pipes g c =
+    let pipes = ap (λ (l : Limits). l.pipes) (c.config.ensures ∙ ap (λ (s : ScriptText). s.limits) c.script.ensures) in
+    omega (arith, pipes, c.config.result.now.pipes_in_range)
+
+pub returns-in-Err-clause-depth : goal.returns-in-Err-clause-depth
+returns-in-Err-clause-depth g c =
+    let depth = ap (λ (l : Limits). l.depth) (c.config.ensures ∙ ap (λ (s : ScriptText). s.limits) c.script.ensures) in
+    omega (arith, depth, c.config.result.now.depth_in_range)
+
+pub returns-in-Err-clause-pipes : goal.returns-in-Err-clause-pipes
+returns-in-Err-clause-pipes g c =
     let pipes = ap (λ (l : Limits). l.pipes) (c.config.ensures ∙ ap (λ (s : ScriptText). s.limits) c.script.ensures) in
     omega (arith, pipes, c.config.result.now.pipes_in_range)

@@ -14,14 +14,14 @@ subscribe-requires-clause-bus g c = c.loop-i.invariant.same.lock ∙ c.requires.
 
 pub subscribe-requires-clause-may : goal.subscribe-requires-clause-may
 subscribe-requires-clause-may g c =
-    may_subscribe c.args.pipe c.args.plan.now.routes c.args.port.now c.loop-i.port c.loop-i.i c.loop-i.invariant c.requires.room (omega (arith, c.loop-i-test.true, c.routes.ensures.count)) c.route.result.0 c.route.result.1
+    may_subscribe c.args.pipe c.args.plan.now.routes c.args.port.now c.loop-i.port c.loop-i.i c.loop-i.invariant c.requires.room (omega (arith, c.loop-i-test.true, c.routes-i-end.ensures.count)) c.route-id.result.0 c.route-id.result.1
 
 pub loop-i-preserved : goal.loop-i-preserved
 loop-i-preserved g c =
-    subscribed c.args.pipe c.args.plan.now.routes c.args.port.now c.loop-i.port c.loop-i.i c.loop-i.invariant c.requires.room (omega (arith, c.loop-i-test.true, c.routes.ensures.count))
-    c.subscribe.new.self c.route.result.0 c.route.result.1 (done c.subscribe.result) c.route.ensures c.subscribe.ensures.answers c.recall.ensures.mine
+    subscribed c.args.pipe c.args.plan.now.routes c.args.port.now c.loop-i.port c.loop-i.i c.loop-i.invariant c.requires.room (omega (arith, c.loop-i-test.true, c.routes-i-end.ensures.count))
+    c.subscribe.new.self c.route-id.result.0 c.route-id.result.1 (done c.subscribe.result) c.route-id.ensures c.subscribe.ensures.answers c.recall.ensures.mine
 
 pub returns : goal.returns
 returns g c =
     let routes = c.args.plan.now.routes in
-    subst (λ (rs : List Route). HasCalled c.args.port.now c.loop-i.port (subscriptions c.args.pipe rs)) (ap (λ n. take n routes) (omega (arith, c.loop-i-test.false, c.routes.ensures.count)) ∙ take_all routes) c.loop-i.invariant
+    subst (λ (rs : List Route). HasCalled c.args.port.now c.loop-i.port (subscriptions c.args.pipe rs)) (take_all c.loop-i.i routes (omega (arith, c.loop-i-test.false, c.routes-i-end.ensures.count))) c.loop-i.invariant
