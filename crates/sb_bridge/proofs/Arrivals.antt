@@ -13,7 +13,6 @@ use Rattle.bus_words.specs.Runs.{callers, own_entries}
 use Rattle.bus_words.proofs.OwnEntries.{state_further}
 use Rattle.bus_words.proofs.Steps.{AreNumbered-after}
 use Rattle.bus_service.specs.Ports.{Answers, Begins, PortView}
-use Rattle.bus_service.proofs.Histories.{by_others, nothing_more}
 use Rattle.sb_calls.specs.Core.{Core, apps_of, state_of}
 use Rattle.script_runs.specs.Histories.{Histories}
 use Rattle.bridge_plan.specs.Plan.{PlanText, bridge_of}
@@ -26,6 +25,7 @@ use Rattle.bridge_runs.proofs.LineSends.{waits_beside}
 use Rattle.sb_bridge.specs.Calls.{calls_in, sends_of}
 use Rattle.sb_bridge.specs.Ports.{IsAt, IsOwn, given_in}
 use Rattle.sb_bridge.proofs.Asked.{given, own_still, same}
+use Rattle.sb_bridge.proofs.OthersEntries.{by_others, nothing_more}
 use Rattle.sb_bridge.proofs.OwnPipe.{IsOnly, given_others, only-owned, only_others}
 
 -- ---- the entries of the end

@@ -31,7 +31,7 @@ use Rattle.thread_run.specs.declared.works.Done.{Done}
 use Rattle.thread_run.specs.Mains.{numbers, IsJoined, AreJoined}
 use Rattle.thread_run.specs.Whole.{app_beside, whole_of}
 use Rattle.thread_run.specs.Works.{IsDone, Numbered}
-use Rattle.thread_run.proofs.Joins.{begins-longer, begins-trans, each-at, named, same-longer}
+use Rattle.thread_run.proofs.Joins.{begins-longer, begins-trans, each-at, named}
 use Rattle.thread_run.proofs.Joins as joins
 use Rattle.thread_run.proofs.Numbers.{in-numbers}
 use Rattle.thread_run.proofs.Wholes.{app_at-whole}
@@ -39,6 +39,7 @@ use Rattle.bridge_plan.specs.Plan.{bridge_of}
 use Rattle.bridge_runs.specs.Sides.{AreLegal, MergesBeside}
 use Rattle.sb_bridge.specs.declared.ends.EndedPorts.{EndedPorts}
 use Rattle.sb_bridge.specs.Sides.{IsClosedSide}
+use Rattle.sb_bridge.proofs.FirstOfAll.{same-longer}
 
 -- ---- what the main part of the tables has seen
 

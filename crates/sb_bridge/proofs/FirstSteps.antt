@@ -50,6 +50,11 @@ created plan p old new answer own made recalled told =
           ∙ owned_create between.limits between.log.entries (state_of between) old.app plan.one.limits.depth (codes "BRIDGE") p (sym made.does.as_machine ∙ is);
     }
 
+-- which is one call more
+pub created_count : (plan : PlanText) (p : ℕ) (old new : PortView) → HasCreated plan p old new → length new.mine ≡ length old.mine + 1
+created_count plan p old new made =
+    ap length made.mine ∙ length-append old.mine (record { app = old.app; call = Create plan.one.limits.depth (codes "BRIDGE"); answer = made.answer } ∷ [])
+
 -- ---- and subscribed
 
 pub called-none : (port : PortView) → IsOwn port → standing_behind port.mine ≡ Active → HasCalled port port []

@@ -1,4 +1,5 @@
 pub mod OwnPipe
+pub mod OthersEntries
 pub mod OwnBudget
 pub mod Asked
 pub mod Waits

@@ -125,6 +125,7 @@ fn run_in<'s, 'x, 'a: 's, 'b: 's, 'c: 's, 'g: 's, 'r: 's, R: Threads + Wait + Sy
         bridge.crossing,
         move || -> BridgeDone
             requires { MayBridge bridge }
+            ensures { IsThrough bridge.entry.crossing result }
         { run_one(rt_of_two, bridge) },
     );
     // The bridge's thread counts on either side.

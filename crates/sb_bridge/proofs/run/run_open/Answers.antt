@@ -25,11 +25,11 @@ pub crew_of-requires-clause-tables : goal.crew_of-requires-clause-tables
 crew_of-requires-clause-tables g c = opens-shared_at_tables c.args.plan.now 1 c.parts_of-shared.result c.args.first.bus c.args.first.tables c.parts_of-shared.ensures.script c.parts_of-shared.ensures.beside c.parts_of-shared.ensures.bus c.parts_of-shared.ensures.tables 0 c.args.first.tables_main c.requires.tables_one
 
 pub run_second-requires-clause-one : goal.run_second-requires-clause-one
-run_second-requires-clause-one g c =
+run_second-requires-clause-one g c κs within =
     crew-of c.args.plan.now 1 c.parts_of-shared.result c.args.first.bus c.args.first.tables c.parts_of-shared.ensures.script c.parts_of-shared.ensures.beside c.parts_of-shared.ensures.bus c.parts_of-shared.ensures.tables c.in_ok-one.one c.in_ok-one.ensures.shared c.in_ok-one.ensures.side c.in_ok-one.ensures.room c.in_ok-one.ensures.ports
 
 pub run_second-requires-clause-bus_one : goal.run_second-requires-clause-bus_one
-run_second-requires-clause-bus_one g c =
+run_second-requires-clause-bus_one g c κs within =
     subst (λ (s : RunParts). IsOpen (whole s) s.bus.now (length (whole s).apps) c.crew_of.new.bus_main) (sym c.in_ok-one.ensures.shared) c.in_ok-one.ensures.bus
 
 pub close_side-requires-clause-bus : goal.close_side-requires-clause-bus

@@ -25,7 +25,7 @@ pub crew_of-requires-clause-tables : goal.crew_of-requires-clause-tables
 crew_of-requires-clause-tables g c = opens-shared_at_tables c.args.plan.now 2 c.parts_of-shared.result c.args.second.bus c.args.second.tables c.parts_of-shared.ensures.script c.parts_of-shared.ensures.beside c.parts_of-shared.ensures.bus c.parts_of-shared.ensures.tables 0 c.args.second.tables_main c.requires.tables_two
 
 pub run_crews-ended-requires-clause-two : goal.run_crews-ended-requires-clause-two
-run_crews-ended-requires-clause-two g c =
+run_crews-ended-requires-clause-two g c κs within =
     crew-of c.args.plan.now 2 c.parts_of-shared.result c.args.second.bus c.args.second.tables c.parts_of-shared.ensures.script c.parts_of-shared.ensures.beside c.parts_of-shared.ensures.bus c.parts_of-shared.ensures.tables c.in_ok-two.two c.in_ok-two.ensures.shared c.in_ok-two.ensures.side c.in_ok-two.ensures.room c.in_ok-two.ensures.ports
 
 pub close_side-requires-clause-bus : goal.close_side-requires-clause-bus

@@ -2,7 +2,7 @@ use Rattle.std.proofs.Common.{◌∙◌, arith}
 use Rattle.sb_bridge.proofs.threads.begin_side.Goals as goal
 
 pub returns-clause-begun : goal.returns-clause-begun
-returns-clause-begun g t c = record {
+returns-clause-begun g c = record {
   each = c.begin_all.ensures.begun;
   all = c.begin_all.ensures.all ∙ c.requires.side.all;
   none = c.requires.side.room.none_done;
@@ -13,4 +13,4 @@ returns-clause-begun g t c = record {
 }
 
 pub begin_all-requires-clause-left : goal.begin_all-requires-clause-left
-begin_all-requires-clause-left g t c = omega (arith, c.requires.side.all, c.requires.side.beside, c.requires.asked)
+begin_all-requires-clause-left g c = omega (arith, c.requires.side.all, c.requires.side.beside, c.requires.asked)
