@@ -1,28 +1,24 @@
 -- What the bridge and both sides leave is a run of the plan.
-use Rattle.std.proofs.Common.{◌≡◌, ◌≢◌, ◌⊎◌, ⊎_elim, ℕ, ◌+◌, ◌≤◌, ◌==◌, false, true, cond, List, [], ◌∷◌, ◌++◌, length, map, append-nil, append_assoc, length-append, refl, ap, ap₂, sym, ◌∙◌, subst, arith, All}
-use Rattle.std.proofs.lemmas.List.{length-map, map-append}
+use Rattle.std.proofs.Common.{◌≡◌, ◌≢◌, ℕ, ◌≤◌, ◌==◌, false, List, [], ◌∷◌, ◌++◌, length, map, append-nil, append_assoc, refl, ap, ap₂, sym, ◌∙◌, subst, arith, All}
 use Rattle.std.proofs.lemmas.List.Elements.{filter-append}
 use Rattle.bus_words.specs.declared.calls.BusAnswer.TheVariants.{Done, TimeOut}
 use Rattle.bus_words.specs.declared.history.Call.{Call}
 use Rattle.bus_words.specs.declared.history.Call.TheVariants.{End}
 use Rattle.bus_words.specs.declared.history.Entry.{Entry}
-use Rattle.bus_words.specs.Alone.{Received, last_received, receipts}
-use Rattle.bus_words.specs.Bus.{State, opening}
-use Rattle.bus_words.specs.Machine.{IsLegal, state_after, step}
+use Rattle.bus_words.specs.Alone.{Received, receipts}
+use Rattle.bus_words.specs.Machine.{IsLegal, state_after}
 use Rattle.bus_words.specs.Runs.{callers, own_entries}
-use Rattle.bus_words.proofs.OwnEntries.{state_further}
 use Rattle.bus_words.proofs.Steps.{AreNumbered-after}
 use Rattle.bus_service.specs.Ports.{Answers, Begins, PortView}
 use Rattle.sb_calls.specs.Core.{Core, apps_of, state_of}
 use Rattle.script_runs.specs.Histories.{Histories}
 use Rattle.bridge_plan.specs.Plan.{PlanText, bridge_of}
 use Rattle.bridge_plan.specs.Sends.{sends_of as sends_on}
-use Rattle.bridge_runs.specs.Bridge.{BeginsBridge, BridgesFrom, MakesPipe, Waits, WaitsAndEnds, first_calls, forwarding, given_by}
+use Rattle.bridge_runs.specs.Bridge.{BridgesFrom, MakesPipe, Waits, first_calls, given_by}
 use Rattle.bridge_runs.specs.Lefts.{bytes_of, sends_in}
-use Rattle.bridge_runs.specs.Sides.{AreLegal, MergesBeside, side_apps}
+use Rattle.bridge_runs.specs.Sides.{AreLegal, MergesBeside}
 use Rattle.bridge_runs.proofs.BridgeLaws.{bytes_beside, lines_beside}
 use Rattle.bridge_runs.proofs.LineSends.{waits_beside}
-use Rattle.sb_bridge.specs.Calls.{calls_in, sends_of}
 use Rattle.sb_bridge.specs.Ports.{IsAt, IsOwn, given_in}
 use Rattle.sb_bridge.proofs.Asked.{given, own_still, same}
 use Rattle.sb_bridge.proofs.OthersEntries.{by_others, nothing_more}

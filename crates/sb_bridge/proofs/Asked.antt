@@ -1,5 +1,5 @@
 -- What one call of a port leaves of what is known of it.
-use Rattle.std.proofs.Common.{◌≡◌, ◌⊎◌, inl, inr, ℕ, ◌+◌, ◌-◌, ◌<◌, ◌≤◌, ◌==◌, ◌&&◌, Bool, true, false, cond, true≢false, eqb-true, nat_le, IsTrue, List, [], ◌∷◌, ◌++◌, length, map, append-nil, Option, Some, None, IfSome, refl, ap, sym, ◌∙◌, subst, arith, All}
+use Rattle.std.proofs.Common.{◌≡◌, ◌⊎◌, inl, inr, ℕ, ◌+◌, ◌-◌, ◌<◌, ◌≤◌, ◌==◌, ◌&&◌, Bool, true, false, cond, eqb-true, nat_le, IsTrue, List, [], ◌∷◌, ◌++◌, length, map, append-nil, Option, Some, None, IfSome, refl, ap, sym, ◌∙◌, subst, arith, All}
 use Rattle.std.specs.Option.{option_map, option_map_or, option_and_then}
 use Rattle.std.proofs.lemmas.Bool.Decides.{nat_tests}
 use Rattle.std.proofs.lemmas.List.{map-append}
@@ -7,11 +7,11 @@ use Rattle.std.proofs.lemmas.List.Elements.{All-nil, All-cons}
 use Rattle.fsw_base.specs.declared.config.Budget.{Budget}
 use Rattle.fsw_base.specs.Limits.{Limits}
 use Rattle.journal_store.specs.declared.allowance.Allowance.{Allowance}
-use Rattle.journal_store.specs.Budgets.{HasRoom, allowance_of}
+use Rattle.journal_store.specs.Budgets.{allowance_of}
 use Rattle.bus_words.specs.declared.calls.BusAnswer.{BusAnswer}
 use Rattle.bus_words.specs.declared.calls.BusAnswer.TheVariants.{Got, TimeOut, Pending}
 use Rattle.bus_words.specs.declared.history.Call.{Call}
-use Rattle.bus_words.specs.declared.history.Call.TheVariants.{Pend, Look, Transmit}
+use Rattle.bus_words.specs.declared.history.Call.TheVariants.{Transmit}
 use Rattle.bus_words.specs.declared.history.Entry.{Entry}
 use Rattle.bus_words.specs.Alone.{Received, gets_from, last_of, last_received, receipts}
 use Rattle.bus_words.specs.Bus.{Item, Pipe, State, Standing, Active, Waiting, opening, owns, pipe_at, standing_of}
@@ -28,9 +28,8 @@ use Rattle.bus_words.proofs.Journals.{length-left_of}
 use Rattle.bus_words.proofs.OwnEntries.{left_by_own, state_further}
 use Rattle.bus_words.proofs.OwnStandings.{stands_by_last}
 use Rattle.bus_words.proofs.Steps.{AreNumbered-after}
-use Rattle.lend_block.specs.declared.note.Note.{Note}
 use Rattle.sb_plain.specs.Core.{is_within}
-use Rattle.sb_calls.specs.Bags.{CalledByOthers, last_message}
+use Rattle.sb_calls.specs.Bags.{last_message}
 use Rattle.sb_calls.specs.Core.{Core, IsLegalCore, MayCall, apps_of, state_of, with_noted}
 use Rattle.sb_calls.specs.Notes.{note_due}
 use Rattle.bus_service.specs.Ports.{Answers, AnswersLook, PortView}

@@ -1,26 +1,22 @@
 -- The bridge's first calls are the first of all.
-use Rattle.std.proofs.Common.{◌≡◌, ◌≢◌, ◌⊎◌, ⊎_elim, ℕ, ◌≤◌, false, true, List, [], ◌∷◌, ◌++◌, length, map, codes, refl, ap, ap₂, sym, ◌∙◌, subst, arith, All}
+use Rattle.std.proofs.Common.{◌≡◌, ◌≢◌, ⊎_elim, ℕ, ◌≤◌, false, List, [], ◌∷◌, ◌++◌, map, codes, refl, ap, ap₂, sym, ◌∙◌, subst, arith, All}
 use Rattle.std.proofs.lemmas.List.{map-append}
 use Rattle.std.proofs.lemmas.List.Elements.{All-cons}
-use Rattle.fsw_base.specs.declared.config.Scope.TheVariants.{Global}
 use Rattle.fsw_base.specs.declared.statuses.SbStatus.{SbStatus}
-use Rattle.bus_words.specs.declared.calls.BusAnswer.{BusAnswer}
 use Rattle.bus_words.specs.declared.calls.BusAnswer.TheVariants.{Number, Sb}
 use Rattle.bus_words.specs.declared.history.Call.{Call}
-use Rattle.bus_words.specs.declared.history.Call.TheVariants.{Create, Subscribe}
+use Rattle.bus_words.specs.declared.history.Call.TheVariants.{Create}
 use Rattle.bus_words.specs.declared.history.Entry.{Entry}
 use Rattle.bus_words.specs.Alone.{Received, gets_from}
-use Rattle.bus_words.specs.Bus.{opening, owns}
+use Rattle.bus_words.specs.Bus.{opening}
 use Rattle.bus_words.specs.Machine.{IsLegal}
 use Rattle.bus_words.specs.Runs.{own_entries}
 use Rattle.bus_service.specs.Ports.{PortView}
-use Rattle.sb_calls.specs.Core.{apps_of, state_of}
-use Rattle.bridge_plan.specs.declared.routes.Route.{Route}
+use Rattle.sb_calls.specs.Core.{apps_of}
 use Rattle.bridge_plan.specs.Plan.{PlanText, bridge_of}
-use Rattle.bridge_runs.specs.Bridge.{MakesPipe, first_calls}
+use Rattle.bridge_runs.specs.Bridge.{MakesPipe}
 use Rattle.sb_bridge.specs.Calls.{calls_in}
 use Rattle.sb_bridge.specs.Openings.{HasCalled, HasCreated, IsFirst, subscriptions}
-use Rattle.sb_bridge.specs.Ports.{one_more}
 use Rattle.sb_bridge.proofs.Asked.{all_own}
 use Rattle.sb_bridge.proofs.FirstCalls.{all_its, callers_are, first_pipe, none_given, subscriptions_quiet}
 

@@ -1,17 +1,17 @@
 -- A history that one application began, by creating a pipe and subscribing it.
-use Rattle.std.proofs.Common.{◌≡◌, ◌≢◌, ℕ, ◌+◌, ◌<◌, ◌≤◌, ◌==◌, ◌||◌, nat_le, nat_lt, Bool, true, false, cond, true≢false, eq-eqb, List, [], ◌∷◌, ◌++◌, length, map, Option, Some, None, refl, ap, sym, ◌∙◌, subst, arith, All}
+use Rattle.std.proofs.Common.{◌≡◌, ◌≢◌, ℕ, ◌≤◌, ◌==◌, ◌||◌, nat_le, nat_lt, true, false, cond, true≢false, eq-eqb, List, [], ◌∷◌, ◌++◌, length, map, Option, Some, None, refl, ap, sym, ◌∙◌, arith, All}
 use Rattle.std.proofs.lemmas.Bool.Decides.{nat_tests}
 use Rattle.std.proofs.lemmas.List.Elements.{All-nil, All-cons, All-head, All-tail}
 use Rattle.fsw_base.specs.declared.config.Scope.TheVariants.{Global}
 use Rattle.fsw_base.specs.declared.statuses.SbStatus.{SbStatus}
-use Rattle.fsw_base.specs.declared.statuses.SbStatus.TheVariants.{BadArgument, MaxPipesMet, PipeCrErr}
+use Rattle.fsw_base.specs.declared.statuses.SbStatus.TheVariants.{BadArgument, MaxPipesMet}
 use Rattle.fsw_base.specs.Limits.{Limits}
 use Rattle.bus_words.specs.declared.calls.BusAnswer.{BusAnswer}
 use Rattle.bus_words.specs.declared.calls.BusAnswer.TheVariants.{Number}
 use Rattle.bus_words.specs.declared.history.Call.{Call}
 use Rattle.bus_words.specs.declared.history.Call.TheVariants.{Create, Subscribe}
 use Rattle.bus_words.specs.declared.history.Entry.{Entry}
-use Rattle.bus_words.specs.Alone.{Received, gets_from, last_received, receipts, receipts_from}
+use Rattle.bus_words.specs.Alone.{Received, gets_from, last_received, receipts_from}
 use Rattle.bus_words.specs.Bus.{State, opening}
 use Rattle.bus_words.specs.Machine.{IsLegal, by_bus, create_cause, decided, step}
 use Rattle.bus_words.specs.Runs.{callers, own_entries}

@@ -1,15 +1,13 @@
 -- The bridge's port of side 1, met by the main part before any other application has called.
-use Rattle.std.proofs.Common.{◌≡◌, ◌≢◌, ◌⊎◌, inl, inr, ℕ, zero, suc, ◌+◌, ◌<◌, ◌≤◌, nat_le, Bool, true, false, List, [], ◌∷◌, ◌++◌, length, Contains, refl, ap, sym, ◌∙◌, subst, arith}
+use Rattle.std.proofs.Common.{◌≡◌, ◌≢◌, inl, inr, ℕ, zero, suc, ◌+◌, ◌<◌, ◌≤◌, nat_le, true, false, List, [], ◌∷◌, ◌++◌, length, Contains, refl, ap, sym, ◌∙◌, subst, arith}
 use Rattle.std.proofs.lemmas.Bool.Decides.{nat_tests}
 use Rattle.std.proofs.lemmas.List.Elements.{All-nil}
 use mathlib.Core.List.{IsPrefix}
 use Rattle.atomic_table.specs.Seated.{TableId}
-use Rattle.bus_words.specs.declared.history.Entry.{Entry}
 use Rattle.bus_words.specs.Runs.{own_entries}
 use Rattle.sb_calls.specs.Core.{Core}
 use Rattle.bus_service.specs.Ports.{Begins, KeepsLongerOf, MainView, PortView}
 use Rattle.app_script.specs.Script.{ScriptText}
-use Rattle.app_run.specs.Openings.{opened}
 use Rattle.thread_run.specs.declared.works.Done.{Done}
 use Rattle.thread_run.specs.Mains.{IsJoined, IsOpen, numbers}
 use Rattle.thread_run.proofs.Numbers.{in-numbers}

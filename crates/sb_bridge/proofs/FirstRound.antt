@@ -1,5 +1,5 @@
 -- Behind its first calls the bridge may begin.
-use Rattle.std.proofs.Common.{◌≡◌, ℕ, ◌+◌, ◌*◌, ◌<◌, ◌≤◌, List, [], ◌∷◌, length, map, Some, append-nil, refl, ap, sym, ◌∙◌, subst, arith}
+use Rattle.std.proofs.Common.{◌≡◌, ℕ, ◌+◌, ◌*◌, List, [], length, Some, append-nil, ap, sym, ◌∙◌, arith}
 use Rattle.std.proofs.lemmas.List.{length-map}
 use Rattle.std.proofs.lemmas.List.Elements.{All-nil}
 use Rattle.fsw_base.specs.declared.config.Budget.{Budget}
@@ -9,7 +9,6 @@ use Rattle.bus_words.specs.declared.history.Call.{Call}
 use Rattle.bus_words.specs.declared.history.Call.TheVariants.{Subscribe}
 use Rattle.bus_words.specs.declared.history.Entry.{Entry}
 use Rattle.bus_service.specs.Ports.{PortView}
-use Rattle.thread_run.specs.declared.works.RunParts.{RunParts}
 use Rattle.bridge_plan.specs.declared.routes.Route.{Route}
 use Rattle.bridge_plan.specs.Plan.{PlanText, bridge_of}
 use Rattle.bridge_plan.specs.Sends.{budget_on_one_of, budget_on_two_of}
@@ -18,8 +17,8 @@ use Rattle.sb_bridge.specs.declared.bridge.BridgePorts.{BridgePorts}
 use Rattle.sb_bridge.specs.declared.bridge.Crossing.{Crossing}
 use Rattle.sb_bridge.specs.Calls.{calls_in, sends_of}
 use Rattle.sb_bridge.specs.Openings.{AreNew, IsFirst}
-use Rattle.sb_bridge.specs.Ports.{budget_of, given_in}
-use Rattle.sb_bridge.specs.Works.{IsBridges, IsForwarding, MayBridge, MayEnd}
+use Rattle.sb_bridge.specs.Ports.{budget_of}
+use Rattle.sb_bridge.specs.Works.{IsBridges, IsForwarding, MayBridge}
 use Rattle.sb_bridge.proofs.Budgets.{can-one, can-two}
 use Rattle.sb_bridge.proofs.NewPorts.{bridges-budget, has-bridge, new-active, new-may_end, new-own}
 use Rattle.sb_bridge.proofs.Rounds.{still-may}

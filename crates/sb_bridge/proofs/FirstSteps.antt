@@ -1,26 +1,25 @@
 -- The bridge's first calls, one by one.
-use Rattle.std.proofs.Common.{◌≡◌, ◌⊎◌, inl, inr, ℕ, ◌+◌, ◌<◌, ◌≤◌, true, IsTrue, List, [], ◌∷◌, ◌++◌, codes, length, map, take, Some, slice_get, append-nil, append_assoc, length-append, refl, ap, sym, ◌∙◌, subst, arith}
+use Rattle.std.proofs.Common.{◌≡◌, ◌⊎◌, ℕ, ◌+◌, ◌<◌, ◌≤◌, IsTrue, List, [], ◌∷◌, ◌++◌, codes, length, take, Some, slice_get, append-nil, append_assoc, length-append, refl, ap, sym, ◌∙◌, subst, arith}
 use Rattle.std.proofs.lemmas.List.{length-map, length-take, map-append, map_more}
 use Rattle.std.proofs.lemmas.Option.{get_or_from_slice_get, slice_get_within}
 use Rattle.fsw_base.specs.declared.config.Budget.{Budget}
 use Rattle.fsw_base.specs.declared.config.Scope.TheVariants.{Global}
 use Rattle.fsw_base.specs.declared.statuses.SbStatus.{SbStatus}
-use Rattle.fsw_base.specs.Limits.{Limits}
 use Rattle.bus_words.specs.declared.calls.BusAnswer.{BusAnswer}
 use Rattle.bus_words.specs.declared.calls.BusAnswer.TheVariants.{Number, Sb}
 use Rattle.bus_words.specs.declared.history.Call.{Call}
 use Rattle.bus_words.specs.declared.history.Call.TheVariants.{Create, Subscribe}
 use Rattle.bus_words.specs.declared.history.Entry.{Entry}
 use Rattle.bus_words.specs.Bus.{Active, Standing, State, owns}
-use Rattle.bus_words.specs.Machine.{may_call, step}
-use Rattle.bus_words.specs.Runs.{own_entries, standing_behind, standing_by}
+use Rattle.bus_words.specs.Machine.{may_call}
+use Rattle.bus_words.specs.Runs.{own_entries, standing_behind}
 use Rattle.bus_service.specs.Ports.{Answers, PortView}
 use Rattle.sb_calls.specs.Core.{MayCall, state_of}
 use Rattle.bridge_plan.specs.declared.routes.Route.{Route}
 use Rattle.bridge_plan.specs.Plan.{PlanText}
 use Rattle.sb_bridge.specs.Calls.{bytes_in, calls_in}
 use Rattle.sb_bridge.specs.Openings.{HasCalled, HasCreated, subscriptions}
-use Rattle.sb_bridge.specs.Ports.{IsOwn, IsSame, budget_of, one_more}
+use Rattle.sb_bridge.specs.Ports.{IsOwn, budget_of}
 use Rattle.sb_bridge.proofs.Asked.{may_own, may_plain, own_still, owned_still, same, stands}
 use Rattle.sb_bridge.proofs.OwnPipe.{owned_create, owned_subscribe}
 use Rattle.sb_bridge.proofs.Waits.{budget-same, same-then}

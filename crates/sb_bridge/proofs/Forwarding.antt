@@ -1,5 +1,5 @@
 -- From one message to the next, and to the end.
-use Rattle.std.proofs.Common.{◌≡◌, ◌⊎◌, inl, inr, ⊎_elim, ℕ, ◌+◌, ◌-◌, ◌*◌, ◌<◌, ◌≤◌, false, List, [], ◌∷◌, ◌++◌, length, map, append_assoc, length-append, refl, ap, ap₂, sym, ◌∙◌, subst, arith, All}
+use Rattle.std.proofs.Common.{◌≡◌, inl, inr, ⊎_elim, ℕ, ◌+◌, ◌*◌, ◌≤◌, false, List, [], ◌∷◌, ◌++◌, length, append_assoc, length-append, ap, sym, ◌∙◌, subst, arith}
 use Rattle.std.proofs.lemmas.List.{length-map, map-append}
 use Rattle.std.proofs.lemmas.List.Elements.{All-append}
 use Rattle.fsw_base.specs.declared.config.Budget.{Budget}
@@ -8,13 +8,12 @@ use Rattle.bus_words.specs.declared.history.Call.{Call}
 use Rattle.bus_words.specs.declared.history.Call.TheVariants.{Transmit}
 use Rattle.bus_words.specs.declared.history.Entry.{Entry}
 use Rattle.bus_service.specs.Ports.{PortView}
-use Rattle.bridge_runs.specs.Bridge.{Waits}
 use Rattle.bridge_runs.specs.Lefts.{bytes_of}
 use Rattle.thread_run.specs.declared.works.RunParts.{RunParts}
 use Rattle.sb_bridge.specs.declared.bridge.Crossing.{Crossing}
 use Rattle.sb_bridge.specs.Calls.{bytes_in, calls_in, sends_of}
 use Rattle.sb_bridge.specs.Ports.{HasWaited, IsSame, LacksRoom, Sends, TakesOne, TimesOut, budget_of, given_in}
-use Rattle.sb_bridge.specs.Works.{AreTooMany, EndInTimeOut, HasBegun, HasSent, HasStopped, IsBridges, IsForwarding}
+use Rattle.sb_bridge.specs.Works.{HasBegun, HasSent, HasStopped, IsBridges, IsForwarding}
 use Rattle.sb_bridge.proofs.OwnBudget.{bytes_sent}
 use Rattle.sb_bridge.proofs.Waits.{budget-same, waits-append}
 

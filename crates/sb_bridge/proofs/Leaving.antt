@@ -1,5 +1,5 @@
 -- What a whole run leaves.
-use Rattle.std.proofs.Common.{◌≡◌, ℕ, ◌+◌, List, length, map, Some, ap, sym, ◌∙◌, subst}
+use Rattle.std.proofs.Common.{◌≡◌, ◌+◌, length, Some, ap, ◌∙◌}
 use Rattle.std.proofs.lemmas.List.{length-map}
 use Rattle.bus_service.specs.Ports.{MainView}
 use Rattle.sb_calls.specs.Core.{apps_of}

@@ -1,5 +1,5 @@
 -- The bridge's ports before their first call.
-use Rattle.std.proofs.Common.{◌≡◌, ℕ, zero, suc, ◌+◌, ◌-◌, ◌<◌, ◌≤◌, Bool, true, false, cond, not, List, [], ◌∷◌, ◌++◌, length, map, replicate, slice_index_or, Option, Some, refl, ap, sym, ◌∙◌, subst, ne_eqb, arith, length-append}
+use Rattle.std.proofs.Common.{◌≡◌, ℕ, zero, suc, ◌-◌, ◌<◌, ◌≤◌, Bool, true, false, cond, not, List, [], ◌∷◌, ◌++◌, length, replicate, slice_index_or, Option, Some, refl, ap, sym, ◌∙◌, subst, ne_eqb, arith, length-append}
 use Rattle.std.proofs.lemmas.List.{get_or-map, length-map}
 use Rattle.atomic_table.specs.Seated.{TableId}
 use Rattle.fsw_base.specs.declared.config.Budget.{Budget}
@@ -14,10 +14,10 @@ use Rattle.tbl_words.specs.declared.history.Call.TheVariants as table_calls
 use Rattle.tbl_words.specs.Log.{left_of as left_at_tables}
 use Rattle.tbl_words.specs.Tables.{has_ended, opening as no_tables}
 use Rattle.tbl_load.specs.Core.{Core as TableCore, MayCall as MayCallTables}
-use Rattle.tbl_service.specs.Ports.{MainView as TablesMainView, PortView as TablesPortView}
+use Rattle.tbl_service.specs.Ports.{MainView as TablesMainView}
 use Rattle.script_settings.specs.Accounts.{budget_of as budget_for}
 use Rattle.app_script.specs.Script.{Application}
-use Rattle.app_run.specs.Openings.{budgets_for, opened, opened_tables}
+use Rattle.app_run.specs.Openings.{budgets_for, opened_tables}
 use Rattle.thread_run.specs.declared.works.RunParts.{RunParts}
 use Rattle.thread_run.specs.Mains.{AreOpen, IsOpen}
 use Rattle.thread_run.specs.Whole.{CanBeBeside, app_beside, whole, whole_of}
@@ -89,15 +89,15 @@ module _ (shared : RunParts) (has : HasBridge shared) where
     may-opened app its =
         let allowance : Budget → Allowance = λ b. record { entries = b.entries; bytes = b.bytes } in
         record {
-      known = omega (arith, its, count);
-      standing = ap not (not-ended (whole shared).limits (length (budgets_for (whole shared))) app (omega (arith, its)) (omega (arith, its, count)));
-      room = record {
-        known = omega (arith, its, count, length-map (budgets_for (whole shared)) allowance);
-        one_entry = allowed app its;
-        its_bytes = omega arith;
-      };
-      within = refl;
-    }
+          known = omega (arith, its, count);
+          standing = ap not (not-ended (whole shared).limits (length (budgets_for (whole shared))) app (omega (arith, its)) (omega (arith, its, count)));
+          room = record {
+            known = omega (arith, its, count, length-map (budgets_for (whole shared)) allowance);
+            one_entry = allowed app its;
+            its_bytes = omega arith;
+          };
+          within = refl;
+        }
 
   -- ---- ports that made no call
 

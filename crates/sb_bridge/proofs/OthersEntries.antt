@@ -22,4 +22,3 @@ by_others app (e ∷ es) none = by (eqb e.app app) refl none (by_others app es)
 pub nothing_more : (xs ys : List Entry) → xs ++ ys ≡ xs → ys ≡ []
 nothing_more xs [] is = refl
 nothing_more xs (y ∷ ys) is = absurd (omega (arith, ap (λ (l : List Entry). length l) is, length-append xs (y ∷ ys)))
-

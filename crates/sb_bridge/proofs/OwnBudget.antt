@@ -1,5 +1,5 @@
 -- What an application's own entries leave of its budget.
-use Rattle.std.proofs.Common.{◌≡◌, ℕ, suc, ◌+◌, ◌-◌, ◌≤◌, false, List, [], ◌∷◌, ◌++◌, length, map, refl, ap, sym, ◌∙◌, subst, arith}
+use Rattle.std.proofs.Common.{◌≡◌, ℕ, suc, ◌+◌, ◌-◌, ◌≤◌, List, [], ◌∷◌, ◌++◌, length, map, refl, ap, sym, ◌∙◌, arith}
 use Rattle.std.specs.Prelude.{All, slice_index_or}
 use Rattle.std.proofs.lemmas.List.{get_or-map}
 use Rattle.std.proofs.lemmas.List.Elements.{All-head, All-tail}
@@ -8,13 +8,12 @@ use Rattle.journal_store.specs.declared.allowance.Allowance.{Allowance}
 use Rattle.journal_store.specs.Budgets.{allowance_of, allowances, charged, left_from}
 use Rattle.journal_store.proofs.Charges.{length-charged}
 use Rattle.bus_words.specs.declared.history.Call.{Call}
-use Rattle.bus_words.specs.declared.history.Call.TheVariants.{Transmit}
 use Rattle.bus_words.specs.declared.history.Entry.{Entry}
 use Rattle.bus_words.specs.Entries.{call_bytes}
 use Rattle.bus_words.specs.Log.{charge_of, left_of}
 use Rattle.bus_words.proofs.OwnEntries.{charged_own}
 use Rattle.bridge_runs.specs.Lefts.{bytes_of}
-use Rattle.sb_bridge.specs.Calls.{bytes_in, calls_in, sends_of}
+use Rattle.sb_bridge.specs.Calls.{bytes_in, sends_of}
 
 pub bytes_append : (xs ys : List Call) → bytes_in (xs ++ ys) ≡ bytes_in xs + bytes_in ys
 bytes_append [] ys = omega arith

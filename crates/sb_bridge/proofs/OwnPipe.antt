@@ -1,5 +1,5 @@
 -- What a pipe gives comes by the entries of the one application that has it, or had it.
-use Rattle.std.proofs.Common.{◌≡◌, ◌≢◌, ℕ, ◌+◌, ◌<◌, ◌≤◌, ◌==◌, ◌&&◌, ◌||◌, not, Bool, true, false, cond, true≢false, eqb-true, ne_eqb, IsTrue, List, [], ◌∷◌, ◌++◌, length, map, append-nil, append_assoc, Option, Some, None, refl, ap, sym, ◌∙◌, subst, arith}
+use Rattle.std.proofs.Common.{◌≡◌, ◌≢◌, ℕ, ◌+◌, ◌≤◌, ◌==◌, ◌&&◌, ◌||◌, not, Bool, true, false, cond, true≢false, eqb-true, ne_eqb, IsTrue, List, [], ◌∷◌, ◌++◌, map, append-nil, append_assoc, Option, Some, None, refl, ap, sym, ◌∙◌, subst, arith}
 use Rattle.std.specs.List.{All}
 use Rattle.std.proofs.lemmas.List.Elements.{All-head, All-tail}
 use Rattle.fsw_base.specs.declared.config.Scope.{Scope}
@@ -15,7 +15,7 @@ use Rattle.bus_words.specs.Alone.{Received, gets_from, last_received, receipts, 
 use Rattle.bus_words.specs.Bus.{Pipe, State, Active, Waiting, Subscription, Sending, after_receive, is_empty, is_live, is_subscribed, new_pipe, offered, opening, others_idle, owns, route, standing_of, with_bits, with_standing}
 use Rattle.bus_words.specs.Machine.{IsLegal, LegalFrom, by_bus, cause, decided, may_call, oldest_number, received, state_after, state_from, step}
 use Rattle.bus_words.specs.Refusals.{Refusal, OfBus, OfPools, OfEvents}
-use Rattle.bus_words.proofs.Finds.{Each, Each-drop, Each-filter, Each-push, any-push, both, same-self}
+use Rattle.bus_words.proofs.Finds.{Each, Each-filter, Each-push, any-push, both, same-self}
 use Rattle.bus_words.proofs.KeptPipes.{AreSingle, owns-with_pipe, single-rising}
 use Rattle.bus_words.proofs.Lasts.{gets-owns}
 use Rattle.bus_words.proofs.LegalSteps.{AreWaiters, AreWaiters-after, AreWaiters-step, kept-step}

@@ -1,5 +1,5 @@
 -- The bridge's rounds: what it may do next, and that it may end.
-use Rattle.std.proofs.Common.{◌≡◌, ◌⊎◌, ⊎_elim, ℕ, ◌+◌, ◌*◌, ◌≤◌, List, length, length-append, ap, sym, ◌∙◌, subst, arith}
+use Rattle.std.proofs.Common.{◌≡◌, ◌+◌, ◌≤◌, length, length-append, ap, arith}
 use Rattle.fsw_base.specs.declared.config.Budget.{Budget}
 use Rattle.bus_words.specs.Bus.{Active}
 use Rattle.bus_words.specs.Runs.{standing_behind}
@@ -8,8 +8,7 @@ use Rattle.thread_run.specs.declared.works.RunParts.{RunParts}
 use Rattle.sb_bridge.specs.declared.ends.BridgeDone.{BridgeDone}
 use Rattle.sb_bridge.specs.declared.bridge.BridgePorts.{BridgePorts}
 use Rattle.sb_bridge.specs.declared.bridge.Crossing.{Crossing}
-use Rattle.sb_bridge.specs.declared.ends.EndedPorts.{EndedPorts}
-use Rattle.sb_bridge.specs.Ports.{IsOwn, budget_of, given_in}
+use Rattle.sb_bridge.specs.Ports.{IsOwn, budget_of}
 use Rattle.sb_bridge.specs.Works.{EndsAs, HasStopped, IsBridges, IsForwarding, IsThrough, MayEnd}
 use Rattle.sb_bridge.proofs.Forwarding.{many, room_on_one, room_on_two}
 

@@ -1,5 +1,5 @@
 -- Waits of one or two entries, and how they follow each other.
-use Rattle.std.proofs.Common.{◌≡◌, ℕ, ◌+◌, ◌≤◌, Bool, true, false, IsTrue, List, [], ◌∷◌, ◌++◌, length, append_assoc, refl, ap, ap₂, sym, ◌∙◌, subst, arith, All}
+use Rattle.std.proofs.Common.{◌≡◌, ℕ, ◌+◌, ◌≤◌, Bool, true, false, IsTrue, List, [], ◌∷◌, ◌++◌, length, append_assoc, refl, ap, ap₂, sym, ◌∙◌, subst, arith}
 use Rattle.std.proofs.lemmas.List.Elements.{All-nil, All-cons}
 use Rattle.bus_words.specs.declared.calls.BusAnswer.{BusAnswer}
 use Rattle.fsw_base.specs.declared.config.Budget.{Budget}
@@ -16,7 +16,7 @@ use Rattle.bus_service.specs.Ports.{Answers, AnswersLook, PortView}
 use Rattle.sb_calls.specs.declared.results.Pended.TheVariants as looks
 use Rattle.sb_calls.specs.Core.{Core, IsLegalCore, MayCall, apps_of, state_of}
 use Rattle.bridge_runs.specs.Bridge.{Waits, is_pending}
-use Rattle.sb_bridge.specs.Ports.{HasTaken, HasTimedOut, HasWaited, IsAt, IsOwn, IsSame, TakesOne, TimesOut, WaitsStill, budget_of, given_in, one_more}
+use Rattle.sb_bridge.specs.Ports.{HasTaken, HasTimedOut, IsAt, IsOwn, IsSame, TakesOne, TimesOut, WaitsStill, budget_of, given_in, one_more}
 use Rattle.sb_bridge.proofs.Asked.{left-waiting, may_plain, standing_is, timed-out, took}
 use Rattle.sb_bridge.proofs.OwnBudget.{budget_at}
 use Rattle.sb_bridge.proofs.OwnPipe.{not_refused, owned_look, owned_others, owned_pend}

@@ -1,5 +1,5 @@
 -- The run of a plan, put together: the first calls, the bridge's thread, and both sides as they closed.
-use Rattle.std.proofs.Common.{◌≡◌, ◌⊎◌, ⊎_elim, inl, inr, ℕ, ◌+◌, ◌≤◌, List, [], ◌∷◌, ◌++◌, length, map, refl, ap, ap₂, sym, ◌∙◌, subst, arith, length-append}
+use Rattle.std.proofs.Common.{◌≡◌, ⊎_elim, ℕ, ◌+◌, List, [], ◌∷◌, ◌++◌, length, map, refl, ap, ap₂, sym, ◌∙◌, subst, arith}
 use Rattle.std.proofs.lemmas.List.{length-map, map-append}
 use Rattle.fsw_base.specs.declared.config.Budget.{Budget}
 use Rattle.fsw_base.specs.declared.config.Scope.TheVariants.{Global}
@@ -12,11 +12,11 @@ use Rattle.bus_words.specs.declared.history.Entry.{Entry}
 use Rattle.bus_words.specs.Machine.{IsLegal}
 use Rattle.bus_words.specs.Runs.{callers, own_entries}
 use Rattle.bus_service.specs.Ports.{Begins, DoneView, MainView, PortView}
-use Rattle.sb_calls.specs.Core.{Core, apps_of}
+use Rattle.sb_calls.specs.Core.{apps_of}
 use Rattle.tbl_words.specs.declared.calls.TblAnswer.TheVariants as table_answers
 use Rattle.tbl_words.specs.declared.history.Call.TheVariants as table_calls
 use Rattle.tbl_words.specs.declared.history.Entry.{Entry as TableEntry}
-use Rattle.tbl_service.specs.Ports.{DoneView as TablesDoneView, PortView as TablesPortView}
+use Rattle.tbl_service.specs.Ports.{DoneView as TablesDoneView}
 use Rattle.script_runs.specs.TableTrace.{own_table_entries}
 use Rattle.app_run.specs.declared.rotating.Finished.{Finished}
 use Rattle.app_run.specs.Runners.{histories_of}
@@ -24,7 +24,7 @@ use Rattle.app_script.specs.Script.{ScriptText}
 use Rattle.thread_run.specs.declared.works.RunParts.{RunParts}
 use Rattle.bridge_plan.specs.declared.routes.Route.{Route}
 use Rattle.bridge_plan.specs.Plan.{PlanText, bridge_of}
-use Rattle.bridge_plan.specs.Sends.{budget_on_two_of, sends_of as sends_on}
+use Rattle.bridge_plan.specs.Sends.{budget_on_two_of}
 use Rattle.bridge_runs.specs.Bridge.{MakesPipe, first_calls, forwarding, given_by}
 use Rattle.bridge_runs.specs.Bridged.{IsBridged}
 use Rattle.bridge_runs.specs.Lefts.{bytes_of}
@@ -33,11 +33,11 @@ use Rattle.sb_bridge.specs.declared.ends.BridgeDone.{BridgeDone}
 use Rattle.sb_bridge.specs.declared.bridge.BridgePorts.{BridgePorts}
 use Rattle.sb_bridge.specs.declared.bridge.Crossing.{Crossing}
 use Rattle.sb_bridge.specs.declared.ends.EndedPorts.{EndedPorts}
-use Rattle.sb_bridge.specs.Calls.{calls_in, sends_of}
+use Rattle.sb_bridge.specs.Calls.{calls_in}
 use Rattle.sb_bridge.specs.Openings.{IsFirst}
 use Rattle.sb_bridge.specs.Ports.{given_in}
 use Rattle.sb_bridge.specs.Sides.{IsClosedSide}
-use Rattle.sb_bridge.specs.Works.{AreTooMany, EndInTimeOut, EndsAs, HasStopped, IsThrough, MayEnd}
+use Rattle.sb_bridge.specs.Works.{AreTooMany, EndInTimeOut, EndsAs, IsThrough, MayEnd}
 use Rattle.sb_bridge.proofs.Arrivals.{bridges, few_bytes, few_given, given_in_all}
 
 -- ---- the ends

@@ -1,5 +1,5 @@
 -- A side as the plan has it, and as its applications share it.
-use Rattle.std.proofs.Common.{◌≡◌, ◌⊎◌, ℕ, ◌+◌, ◌≤◌, List, [], length, map, Some, vec_capacity, refl, ap, ap₂, sym, ◌∙◌, subst}
+use Rattle.std.proofs.Common.{◌≡◌, ℕ, ◌≤◌, [], length, Some, vec_capacity, ap, ap₂, sym, ◌∙◌, subst}
 use Rattle.atomic_table.specs.Seated.{TableId}
 use Rattle.bus_service.specs.Ports.{DoneView, MainView}
 use Rattle.tbl_service.specs.Ports.{DoneView as TablesDoneView, MainView as TablesMainView}

@@ -1,23 +1,20 @@
 -- A side of the bridge: its applications and the bridge's ports, from before their first calls to
 -- the end.
-use Rattle.std.specs.Prelude.{◌≡◌, ℕ, ◌+◌, ◌≤◌, ◌==◌, Some, if◌then◌else◌, List, [], ◌∷◌, length, map, vec_capacity}
+use Rattle.std.specs.Prelude.{◌≡◌, ℕ, ◌+◌, ◌≤◌, ◌==◌, Some, if◌then◌else◌, [], length, map, vec_capacity}
 use Rattle.std.specs.List.{range_with_len}
 use Rattle.atomic_table.specs.Seated.{TableId}
 use Rattle.fsw_base.specs.declared.config.Budget.{Budget}
 use Rattle.app_script.specs.Script.{ScriptText}
-use Rattle.script_runs.specs.Histories.{Histories}
 use Rattle.script_runs.specs.TableTrace.{own_table_entries}
 use Rattle.script_runs.specs.Told.{receipts_told}
 use Rattle.bus_words.specs.Runs.{own_entries}
 use Rattle.bus_service.specs.Ports.{Begins, MainView}
-use Rattle.tbl_service.specs.Ports.{MainView as TablesMainView}
 use Rattle.sb_calls.specs.Core.{apps_of}
 use Rattle.tbl_load.specs.Core.{apps_of as table_apps_of}
 use Rattle.app_run.specs.declared.rotating.Finished.{Finished}
 use Rattle.app_run.specs.Runners.{histories_of}
 use Rattle.thread_run.specs.declared.works.RunParts.{RunParts}
 use Rattle.thread_run.specs.Kept.{HaveRoomFor, IsBegun}
-use Rattle.thread_run.specs.Mains.{AreJoined, IsJoined}
 use Rattle.thread_run.specs.Whole.{whole, whole_of}
 use Rattle.thread_run.specs.Works.{IsDone, MayWork, Numbered}
 use Rattle.bridge_plan.specs.Plan.{PlanText, bridge_of, script_of}

@@ -1,18 +1,15 @@
 -- What the bridge takes along to its thread, and what it leaves there.
-use Rattle.std.specs.Prelude.{◌≡◌, ◌⊎◌, ℕ, ◌+◌, ◌*◌, ◌<◌, ◌≤◌, false, List, [], ◌∷◌, ◌++◌, length, map, All}
-use Rattle.bus_words.specs.declared.calls.BusAnswer.{BusAnswer}
+use Rattle.std.specs.Prelude.{◌≡◌, ◌⊎◌, ℕ, ◌+◌, ◌*◌, ◌<◌, ◌≤◌, false, List, [], ◌∷◌, ◌++◌, length, All}
 use Rattle.bus_words.specs.declared.calls.BusAnswer.TheVariants.{Done, TimeOut}
-use Rattle.bus_words.specs.declared.history.Call.{Call}
 use Rattle.bus_words.specs.declared.history.Call.TheVariants.{End}
 use Rattle.bus_words.specs.declared.history.Entry.{Entry}
-use Rattle.bus_words.specs.Bus.{Active, owns}
+use Rattle.bus_words.specs.Bus.{Active}
 use Rattle.bus_words.specs.Runs.{own_entries, standing_behind}
-use Rattle.bus_service.specs.Ports.{Answers, DoneView, PortView}
-use Rattle.sb_calls.specs.Core.{state_of}
+use Rattle.bus_service.specs.Ports.{Answers, PortView}
 use Rattle.tbl_words.specs.declared.calls.TblAnswer.TheVariants as table_answers
 use Rattle.tbl_words.specs.declared.history.Call.TheVariants as table_calls
 use Rattle.tbl_load.specs.Core.{MayCall as MayCallTables}
-use Rattle.tbl_service.specs.Ports.{Answers as TablesAnswers, DoneView as TablesDoneView, PortView as TablesPortView}
+use Rattle.tbl_service.specs.Ports.{Answers as TablesAnswers, PortView as TablesPortView}
 use Rattle.app_run.specs.Openings.{budgets_for}
 use Rattle.thread_run.specs.declared.works.RunParts.{RunParts}
 use Rattle.thread_run.specs.Whole.{whole}

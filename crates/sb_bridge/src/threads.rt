@@ -176,15 +176,7 @@ fn begin_side<'s, 'x, 'e: 's, 'r: 's, R: Threads + Wait + Sync, G: Gate>(
     } = side;
     let Lists { mut begun, dones } = lists;
     let mut starts = asked;
-    begin_all(
-        scope,
-        rt,
-        gate,
-        shared,
-        &mut works,
-        &mut starts,
-        &mut begun,
-    );
+    begin_all(scope, rt, gate, shared, &mut works, &mut starts, &mut begun);
     BegunSide {
         shared,
         begun,

@@ -1,4 +1,4 @@
-use Rattle.std.proofs.Common.{◌≡◌, ap, sym, ◌∙◌, subst}
+use Rattle.std.proofs.Common.{◌∙◌, subst}
 use Rattle.bus_service.specs.Ports.{AnswersLook}
 use Rattle.sb_bridge.proofs.Asked.{looked-in-vain}
 use Rattle.sb_bridge.proofs.Waits.{may_look, room-still, timed-out-by_look, took-by_look, waited-is, waits-first}

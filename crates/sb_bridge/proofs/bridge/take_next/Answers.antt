@@ -1,4 +1,4 @@
-use Rattle.std.proofs.Common.{◌≡◌, ◌+◌, ◌≤◌, length, Ok, Err, ap, sym, ◌∙◌, subst, arith}
+use Rattle.std.proofs.Common.{Ok, subst, arith}
 use Rattle.bus_words.specs.declared.history.Call.TheVariants.{Pend}
 use Rattle.bus_service.specs.Ports.{Answers}
 use Rattle.sb_calls.specs.Answers.{pended}

@@ -1,5 +1,4 @@
-use Rattle.std.proofs.Common.{◌≡◌, List, [], map, refl, ap₂, sym, ◌∙◌, subst}
-use Rattle.thread_run.specs.declared.works.Done.{Done}
+use Rattle.std.proofs.Common.{[], refl, ap₂, sym, subst}
 use Rattle.thread_run.specs.Whole.{whole, whole_of}
 use Rattle.thread_run.specs.Works.{IsDone, Numbered}
 use Rattle.bridge_plan.specs.Plan.{script_of}

@@ -1,8 +1,6 @@
-use Rattle.std.proofs.Common.{◌≡◌, ◌≢◌, ℕ, ◌+◌, ◌≤◌, List, [], length, Contains, ap, sym, ◌∙◌, subst, arith}
+use Rattle.std.proofs.Common.{◌≡◌, ◌+◌, List, [], length, ap, sym, ◌∙◌, subst, arith}
 use Rattle.fsw_base.specs.declared.config.Budget.{Budget}
-use Rattle.fsw_base.specs.Limits.{Limits}
 use Rattle.bus_words.specs.declared.history.Entry.{Entry}
-use Rattle.bus_words.specs.Runs.{own_entries}
 use Rattle.sb_calls.specs.Core.{Core}
 use Rattle.bus_service.specs.Ports.{MainView, PortView}
 use Rattle.app_script.specs.Script.{ScriptText}

@@ -1,4 +1,4 @@
-use Rattle.std.proofs.Common.{◌≡◌, Result, Ok, Err, ap, ◌∙◌, inl, inr, refl, subst, arith, codes, ℕ}
+use Rattle.std.proofs.Common.{Result, Ok, Err, ap, ◌∙◌, inl, inr, refl, subst, arith, codes, ℕ}
 use Rattle.fsw_base.specs.Limits.{Limits}
 use Rattle.fsw_base.specs.declared.statuses.SbStatus.{SbStatus}
 use Rattle.bus_words.specs.declared.history.Call.TheVariants.{Create}

@@ -1,4 +1,4 @@
-use Rattle.std.proofs.Common.{◌∙◌, ◌+◌, length, ap, sym, subst, suc, refl, arith}
+use Rattle.std.proofs.Common.{◌∙◌, length, ap, sym, subst, arith}
 use Rattle.bus_service.specs.Ports.{PortView}
 use Rattle.tbl_service.specs.Ports.{PortView as TablesPortView}
 use Rattle.thread_run.specs.Mains.{AreOpen, IsOpen}

@@ -1,4 +1,4 @@
-use Rattle.std.proofs.Common.{◌≡◌, take, length, ap, sym, ◌∙◌, subst, arith, List}
+use Rattle.std.proofs.Common.{◌∙◌, subst, arith, List}
 use Rattle.std.proofs.lemmas.List.{take_all}
 use Rattle.sb_plain.specs.Answers.{done}
 use Rattle.bridge_plan.specs.declared.routes.Route.{Route}

@@ -1,5 +1,4 @@
-use Rattle.std.proofs.Common.{◌≡◌, ap, sym, ◌∙◌, subst}
-use Rattle.fsw_base.specs.declared.config.Budget.{Budget}
+use Rattle.std.proofs.Common.{sym, subst}
 use Rattle.app_script.specs.Script.{ScriptText}
 use Rattle.app_run.specs.Openings.{HaveRoom}
 use Rattle.thread_run.specs.Whole.{CanBeBeside}

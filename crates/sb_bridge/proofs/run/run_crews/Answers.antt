@@ -1,5 +1,4 @@
-use Rattle.std.proofs.Common.{◌≡◌, ◌+◌, refl, ap, sym, ◌∙◌, subst, arith}
-use Rattle.std.specs.Prelude.{length}
+use Rattle.std.proofs.Common.{◌+◌, refl, ap, sym, ◌∙◌, subst, arith}
 use Rattle.sb_bridge.specs.declared.bridge.BridgePorts.{BridgePorts}
 use Rattle.sb_bridge.specs.declared.bridge.Crossing.{Crossing}
 use Rattle.sb_bridge.specs.Works.{MayBridge}

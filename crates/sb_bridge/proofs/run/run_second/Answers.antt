@@ -1,15 +1,10 @@
-use Rattle.std.proofs.Common.{◌≡◌, List, [], length, refl, ap, sym, ◌∙◌, subst}
+use Rattle.std.proofs.Common.{refl, ap, sym, ◌∙◌, subst}
 use Rattle.thread_run.specs.declared.works.RunParts.{RunParts}
-use Rattle.thread_run.specs.Mains.{IsJoined, IsOpen}
-use Rattle.thread_run.specs.Whole.{whole}
 use Rattle.bridge_plan.specs.Plan.{bridge_of}
-use Rattle.sb_bridge.specs.declared.ends.EndedPorts.{EndedPorts}
-use Rattle.sb_bridge.specs.declared.threads.DoneSide.{DoneSide}
-use Rattle.sb_bridge.specs.Sides.{AreEnded, AreThrough, AreThroughOf, IsClosedSide, budget_on, whole_on}
+use Rattle.sb_bridge.specs.Sides.{AreThroughOf, budget_on}
 use Rattle.sb_bridge.specs.Works.{MayEnd}
-use Rattle.sb_bridge.proofs.Leaving.{leaves}
 use Rattle.sb_bridge.proofs.NewPorts.{has-bridge}
-use Rattle.sb_bridge.proofs.WholeSides.{crew-of, ended-shared, joined-none, joined-none_at_tables, joined-open, opens-shared, opens-shared_at_tables, through-shared}
+use Rattle.sb_bridge.proofs.WholeSides.{crew-of, ended-shared, joined-none_at_tables, joined-open, opens-shared, opens-shared_at_tables, through-shared}
 use Rattle.sb_bridge.proofs.run.run_second.Goals as goal
 
 pub crew_of-requires-clause-beside : goal.crew_of-requires-clause-beside
