@@ -100,7 +100,8 @@ impl BridgePlan {
     /// What the bridge may add on side 1: its pipe, a subscription a route, a wait and a look for
     /// each message and for the time-out, and its end; and the name of its pipe.
     pub fn budget_on_one(&self) -> Budget
-        ensures { result ≡ budget_on_one_of self.now }
+        ensures budget { result ≡ budget_on_one_of self.now }
+        ensures entries { result.entries ≤ 40020 }
     {
         let sends = sends_of(&self.one);
         Budget {
@@ -113,7 +114,9 @@ impl BridgePlan {
     /// What the bridge may add on side 2: a send for each message, with the message's bytes, and
     /// its end.
     pub fn budget_on_two(&self) -> Budget
-        ensures { result ≡ budget_on_two_of self.now }
+        ensures budget { result ≡ budget_on_two_of self.now }
+        ensures entries { result.entries ≤ 20001 }
+        ensures bytes { result.bytes ≤ 18057216 }
     {
         let sends = sends_of(&self.one);
         Budget {

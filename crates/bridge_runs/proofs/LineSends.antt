@@ -125,6 +125,16 @@ bridge_sends plan p history from =
     none : calls_send (map (λ (x : ℕ × Call). x.1) (map (λ (call : Call). (bridge_of plan.one, call)) (first_calls plan p))) ≡ 0
     none = omega (arith, routes_send (bridge_of plan.one) p plan.routes)
 
+-- of its first calls, waits and its end, whether the last wait timed out or not
+pub waits_beside : (plan : PlanText) (p : ℕ) (first waits : List Entry) (end : Entry) → callers first ≡ map (λ (call : Call). (bridge_of plan.one, call)) (first_calls plan p) → Waits p false waits → end.call ≡ calls.End →
+    sends_in (first ++ (waits ++ end ∷ [])) ≡ 0
+waits_beside plan p first waits end begins waited ends =
+    let firsts : sends_in first ≡ 0 = called first ∙ ap (λ cs. calls_send (map (λ (x : ℕ × Call). x.1) cs)) begins ∙ none in
+    omega (arith, sends-append first (waits ++ end ∷ []), sends-append waits (end ∷ []), sends-cons end [], ap one_send ends, firsts, waits_send p false waits waited)
+  where
+    none : calls_send (map (λ (x : ℕ × Call). x.1) (map (λ (call : Call). (bridge_of plan.one, call)) (first_calls plan p))) ≡ 0
+    none = omega (arith, routes_send (bridge_of plan.one) p plan.routes)
+
 -- ---- side 1
 
 -- sends are entries that weigh one each

@@ -1,0 +1,6 @@
+pub mod Calls
+pub mod Ports
+pub mod Works
+pub mod Openings
+pub mod Sides
+pub mod Left

@@ -1,0 +1,186 @@
+//! The applications of both sides and the bridge, each on its thread.
+ghost use Rattle.sb_bridge.specs.Sides.{IsBegunSide, IsDoneSide, MayBegin};
+ghost use Rattle.sb_bridge.specs.declared.crews.ScriptSide.{ScriptSide};
+ghost use Rattle.sb_bridge.specs.Works.{IsThrough, MayBridge};
+
+use crate::bridge::{BridgeDone, BridgeJob, run_one};
+use crate::crews::ScriptSide;
+use crate::gates::GateOfTwo;
+use bus_words::ReceiptList;
+use fsw_base::Gate;
+use std::sync::Wait;
+use std::thread;
+use std::thread::{Scope, Threads};
+use thread_run::{AllStarted, Begun, Done, Ends, Lists, RunParts, begin_all, end_all, start_one};
+
+// All that runs at once, as the scope of its threads is given it: in one value, which the scope's
+// closure moves whole.
+#[derive(Drop)]
+struct Jobs<'e, 'r, R: Threads + Wait + Sync, G: Gate> {
+    // By what they wait, and what starts their threads.
+    rt: &'e R,
+    // What is called round the lines of side 1.
+    gate: &'e G,
+    // And of side 2.
+    gate_of_two: &'e GateOfTwo<'e, G>,
+    // The bridge.
+    bridge: BridgeJob<'e, 'r>,
+    // Side 1.
+    one: ScriptSide<'e, 'r>,
+    // Side 2.
+    two: ScriptSide<'e, 'r>,
+}
+
+/// Runs the applications of both sides and the bridge to their ends.
+pub(crate) fn run_all<'r, R: Threads + Wait + Sync, G: Gate>(
+    rt: &R,
+    gate: &G,
+    bridge: BridgeJob<'_, 'r>,
+    one: ScriptSide<'_, 'r>,
+    two: ScriptSide<'_, 'r>,
+) -> BothEnded
+    requires bridge { MayBridge bridge }
+    requires one { MayBegin one }
+    requires two { MayBegin two }
+    ensures one { IsDoneSide one.entry result.one }
+    ensures two { IsDoneSide two.entry result.two }
+    ensures bridge { IsThrough bridge.entry.crossing result.bridge }
+{
+    let gate_of_two = GateOfTwo { gate };
+    let jobs = Jobs {
+        rt,
+        gate,
+        gate_of_two: &gate_of_two,
+        bridge,
+        one,
+        two,
+    };
+    thread::scope(
+        thread::scope_env(),
+        rt,
+        move |scope| -> BothEnded
+            requires bridge { MayBridge jobs.bridge }
+            requires one { MayBegin jobs.one }
+            requires two { MayBegin jobs.two }
+            ensures one { IsDoneSide jobs.entry.one result.one }
+            ensures two { IsDoneSide jobs.entry.two result.two }
+            ensures bridge { IsThrough jobs.entry.bridge.crossing result.bridge }
+        { run_in(scope, jobs) },
+    )
+}
+
+/// What is left of the applications of both sides, and of the bridge.
+#[derive(Drop)]
+pub(crate) struct BothEnded {
+    /// Of side 1.
+    pub(crate) one: DoneSide,
+    /// Of side 2.
+    pub(crate) two: DoneSide,
+    /// Of the bridge.
+    pub(crate) bridge: BridgeDone,
+}
+
+/// What is left of a side's applications, in order of number, and room for the receipts of each.
+#[derive(Drop)]
+pub(crate) struct DoneSide {
+    /// What is left of them.
+    pub(crate) dones: Vec<Done>,
+    /// Room for the receipts.
+    pub(crate) receipts: Vec<ReceiptList>,
+}
+
+// The same, in a scope of threads: the bridge is started first, then side 1, then side 2.
+fn run_in<'s, 'x, 'e: 's, 'r: 's, R: Threads + Wait + Sync, G: Gate>(
+    scope: &'s Scope<'s, &'x ()>,
+    jobs: Jobs<'e, 'r, R, G>,
+) -> BothEnded
+    requires bridge { MayBridge jobs.bridge }
+    requires one { MayBegin jobs.one }
+    requires two { MayBegin jobs.two }
+    ensures one { IsDoneSide jobs.entry.one result.one }
+    ensures two { IsDoneSide jobs.entry.two result.two }
+    ensures bridge { IsThrough jobs.entry.bridge.crossing result.bridge }
+{
+    let Jobs {
+        rt,
+        gate,
+        gate_of_two,
+        bridge,
+        one,
+        two,
+    } = jobs;
+    let start = start_one(
+        scope,
+        bridge.crossing,
+        move || -> BridgeDone
+            requires { MayBridge bridge }
+        { run_one(rt, bridge) },
+    );
+    let one = begin_side(scope, rt, gate, one);
+    let two = begin_side(scope, rt, gate_of_two, two);
+    let bridge = start.begin(&two.all).end(rt, &two.all);
+    BothEnded {
+        one: end_side(rt, one),
+        two: end_side(rt, two),
+        bridge,
+    }
+}
+
+/// The applications of a side, once all were begun.
+#[derive(Drop)]
+pub(crate) struct BegunSide<'e, 'r> {
+    /// What they share.
+    pub(crate) shared: RunParts<'e, 'r>,
+    /// Each as it was begun, in order of number.
+    pub(crate) begun: Vec<Begun<Done, Ends<'e, 'r>>>,
+    /// Room for what is left of them.
+    pub(crate) dones: Vec<Done>,
+    /// Room for the receipts of each.
+    pub(crate) receipts: Vec<ReceiptList>,
+    /// None is left to start.
+    pub(crate) all: AllStarted,
+}
+
+// Begins a side's applications, each on a thread of the scope.
+fn begin_side<'s, 'x, 'e: 's, 'r: 's, R: Threads + Wait + Sync, G: Gate>(
+    scope: &'s Scope<'s, &'x ()>,
+    rt: &'e R,
+    gate: &'e G,
+    side: ScriptSide<'e, 'r>,
+) -> BegunSide<'e, 'r>
+    requires { MayBegin side }
+    ensures { IsBegunSide side.entry result }
+{
+    let ScriptSide {
+        shared,
+        mut works,
+        lists,
+        receipts,
+    } = side;
+    let Lists { mut begun, dones } = lists;
+    let all = begin_all(scope, rt, gate, shared, &mut works, &mut begun);
+    BegunSide {
+        shared,
+        begun,
+        dones,
+        receipts,
+        all,
+    }
+}
+
+// Waits for the ends of a side's applications.
+fn end_side<'e, 'r, R: Threads>(rt: &R, side: BegunSide<'e, 'r>) -> DoneSide
+    ghost begun: { ScriptSide }
+    requires { IsBegunSide begun side }
+    ensures { IsDoneSide begun result }
+{
+    let BegunSide {
+        shared,
+        mut begun,
+        mut dones,
+        receipts,
+        all,
+    } = side;
+    end_all(rt, shared, &mut begun, &mut dones, &all);
+    DoneSide { dones, receipts }
+}
