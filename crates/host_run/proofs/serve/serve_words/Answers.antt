@@ -1,7 +1,11 @@
 use Rattle.std.proofs.Common.{sym, ◌∙◌}
-use Rattle.host_run.proofs.Ends.{serves-run}
+use Rattle.host_run.proofs.Served.{serves-bridges, serves-run}
 use Rattle.host_run.proofs.serve.serve_words.Goals as goal
 
-pub returns-then-need_threads-clause-serves : goal.returns-then-need_threads-clause-serves
-returns-then-need_threads-clause-serves g c =
-    serves-run _ _ _ _ _ _ (sym c.need_threads.ensures ∙ c.if-need_threads.true) c.serve_on_threads.ensures.end
+pub returns-in-Some-Run-clause-serves : goal.returns-in-Some-Run-clause-serves
+returns-in-Some-Run-clause-serves g c =
+    serves-run _ c.serve_on_threads.result _ _ _ _ (cc (c.task.ensures, c.in-Some-Run.is)) c.serve_on_threads.ensures.end
+
+pub returns-in-Some-Bridge-clause-serves : goal.returns-in-Some-Bridge-clause-serves
+returns-in-Some-Bridge-clause-serves g c =
+    serves-bridges _ c.serve_bridge.result _ _ _ _ (cc (c.task.ensures, c.in-Some-Bridge.is)) c.serve_bridge.ensures.end
