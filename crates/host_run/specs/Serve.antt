@@ -53,7 +53,8 @@ use Rattle.host_run.specs.declared.status.HostStatus.TheVariants as status
 
 -- the line that tells which words the program knows
 abbrev pub usage_text : List ℕ
-usage_text = codes "usage: run | lockstep | gen N | soak N | check | image | pack NAME OFFSET SUB | bridge\n"
+usage_text =
+    codes "usage: run | lockstep | gen N | soak N | check | image | pack NAME OFFSET SUB | bridge\n"
 
 -- the line that tells a fault
 abbrev pub fault_text : ScriptFault → List ℕ
@@ -276,8 +277,8 @@ EndsParts result None old new = EndsText status.MissingPart result missing_text 
 EndsParts result (Some parts) old new = EndsChecked result (grammar parts.0) parts.1 old new
 
 -- A run of a plan left these histories of its sides, whatever the interleaving: the bridge sent on
--- side 2 just what its pipe received on side 1, each message once and in order. They were shown, and
--- the reports of both sides written.
+-- side 2 just what its pipe received on side 1, each message once and in order. They were shown,
+-- and the reports of both sides written.
 abbrev pub ReportsPlan : PlanText → Made → Made → Type 0
 ReportsPlan plan old new =
     (one : Histories) × (two : Histories) × IsBridged plan one two ×

@@ -24,8 +24,8 @@ use std::thread::Threads;
 /// both. It may wait.
 ///
 /// - `Script`, where the input is longer than 2,097,152 bytes, or a line of it is faulty, or a side
-///   has no application; the line of the first fault is written. At most one byte more than these is
-///   read.
+///   has no application; the line of the first fault is written. At most one byte more than these
+///   is read.
 /// - `MissingPart`, where fewer than two lines are `---`; the line `script:0:MissingPart` is
 ///   written.
 /// - `ReadFault`, `WriteFault` and `NoMemory` as in `serve`.

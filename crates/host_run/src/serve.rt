@@ -62,23 +62,23 @@ pub(crate) struct ByThreads<'a, R, G> {
 /// side 1, `side 2` and the report of side 2; this may wait, as on `run`.
 ///
 /// - `Usage`, on all other words: nothing is read, and the usage line is written.
-/// - `Script`, where the input is no script, on `bridge` no plan, or is longer than 1,048,576 bytes,
-///   on `bridge` than 2,097,152, on `check` than 33,554,432; at most one byte more than that is
-///   read. The line of the first fault is written; by the code, no application ran.
+/// - `Script`, where the input is no script, on `bridge` no plan, or is longer than 1,048,576
+///   bytes, on `bridge` than 2,097,152, on `check` than 33,554,432; at most one byte more than that
+///   is read. The line of the first fault is written; by the code, no application ran.
 /// - `ReadFault`, only where the source's count of faults rose, or stands at its last value:
 ///   nothing is written.
 /// - `WriteFault`, only where the sink's count of faults rose, or stands at its last value: a front
 ///   of the text due is written.
 /// - `NoMemory`, never on other words, and only after a request for memory was refused: nothing is
 ///   written; by the code, no application ran.
-/// - `MissingPart`, on `check` where no line is `---`, and on `bridge` where fewer than two are; the
-///   line `script:0:MissingPart` is written.
+/// - `MissingPart`, on `check` where no line is `---`, and on `bridge` where fewer than two are;
+///   the line `script:0:MissingPart` is written.
 /// - `Illegal`, on `check` where the report is no run's.
 /// - `Image`, on `image` where the input is no table image, and on `pack` where it has no byte; on
 ///   both where it has more than 1,048,576 bytes of a table. The line of the fault is written.
 ///
-/// On every word but `run` and `bridge` it returns: nothing that it does then waits. On `gen N` and `soak N` no
-/// answer but `Done`, `WriteFault` and `NoMemory` comes.
+/// On every word but `run` and `bridge` it returns: nothing that it does then waits. On `gen N` and
+/// `soak N` no answer but `Done`, `WriteFault` and `NoMemory` comes.
 pub fn serve<R: Threads + Wait + Sync, S: Source, K: Sink, G: Gate, A: Audit>(
     rt: &R,
     alloc: Global,
