@@ -6,3 +6,4 @@ pub mod PlanEnds
 pub mod Served
 pub mod Sizes
 pub mod TableCopyLaws
+pub mod TwoTexts

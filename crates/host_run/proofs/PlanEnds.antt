@@ -1,5 +1,5 @@
 -- How the program ends on a plan of two buses, why it ends so, and that both reports are those of the histories.
-use Rattle.std.proofs.Common.{◌≡◌, ℕ, ◌≤◌, List, [], ◌∷◌, ◌++◌, length, map, codes, Option, Some, None, Result, Ok, Err, IfOk, IfErr, inl, inr, refl, sym, ap, subst, ◌∙◌, arith, append-assoc}
+use Rattle.std.proofs.Common.{◌≡◌, ℕ, ◌≤◌, List, [], ◌∷◌, ◌++◌, length, map, codes, Option, Some, None, Result, Ok, Err, IfOk, IfErr, inl, inr, refl, sym, ap, subst, ◌∙◌, arith, append_assoc}
 use Rattle.std.specs.List.{range_with_len}
 use Rattle.std.specs.Option.{option_map}
 use Rattle.fsw_base.specs.Outside.{Rose}
@@ -119,7 +119,7 @@ pub shown-both : (old mid new : Option (List Histories)) (one two : Histories) �
 shown-both old mid new one two (inl first) (inl second) = inl (second ∙ ap (option_map (λ shown. shown ++ two ∷ [])) first ∙ both old)
   where
     both : (shown : Option (List Histories)) → option_map (λ shown. shown ++ two ∷ []) (option_map (λ shown. shown ++ one ∷ []) shown) ≡ option_map (λ shown. shown ++ one ∷ two ∷ []) shown
-    both (Some shown) = ap Some (append-assoc shown (one ∷ []) (two ∷ []))
+    both (Some shown) = ap Some (append_assoc shown (one ∷ []) (two ∷ []))
     both None = refl
 shown-both old mid new one two (inr first) (inl second) = inr (second ∙ ap (option_map (λ shown. shown ++ two ∷ [])) first)
 shown-both old mid new one two (inl first) (inr second) = inr second

@@ -84,7 +84,7 @@ module _ (p : ℕ) (from last : PortView) (at : IsAt p from) (ends : Answers fro
       let front = from.seen.log.entries ++ ends.others.entries in
       let only = only-owned (state_of from.seen) from.app p (AreNumbered-after from.seen.limits (apps_of from.seen) from.seen.log.entries) at.owned in
       let entries : last.seen.log.entries ≡ front ++ record { app = from.app; call = End; answer = Done } ∷ [] =
-          ap (λ (c : Core). c.log.entries) ends.does.entry ∙ ap (λ (c : Core). c.log.entries ++ record { app = from.app; call = End; answer = Done } ∷ []) ends.others.grown in
+      ap (λ (c : Core). c.log.entries) ends.does.entry ∙ ap (λ (c : Core). c.log.entries ++ record { app = from.app; call = End; answer = Done } ∷ []) ends.others.grown in
       subst (λ (es : List Entry). IsOnly from.app p (state_after from.seen.limits (apps_of from.seen) es)) (sym entries)
       (only_others from.seen.limits (apps_of from.seen) from.app p front (record { app = from.app; call = End; answer = Done } ∷ [])
       (only_others from.seen.limits (apps_of from.seen) from.app p from.seen.log.entries ends.others.entries only))

@@ -13,7 +13,8 @@ use Rattle.app_script.specs.Ranges.{IsInRange}
 use Rattle.app_script.specs.Script.{Application, ScriptText}
 use Rattle.app_run.specs.Openings.{budgets_for}
 use Rattle.app_run.proofs.OpenLaws.{are-budgets, budget-entries}
-use Rattle.bridge_plan.specs.Plan.{PlanText}
+use Rattle.app_script.proofs.InRange.{in_range}
+use Rattle.bridge_plan.specs.Plan.{IsPlan, PlanText}
 use Rattle.bridge_plan.specs.Sends.{budget_on_one_of, budget_on_two_of, sends_of, sent_by, sent_from}
 use Rattle.thread_run.specs.Whole.{CanBeBeside, whole_of}
 use Rattle.thread_run.proofs.Wholes.{budgets_beside}
@@ -84,28 +85,40 @@ are-budgets_beside script budget can range some few entries bytes =
       some = omega (arith, length-append all (budget ∷ []));
       few = omega (arith, length-append all (budget ∷ []), length-map script.apps own, few);
       entries = omega (
-          arith,
-          sum_by-append (λ (b : Budget). b.entries) all (budget ∷ []),
-          sum_by-cons (λ (b : Budget). b.entries) budget [],
-          sum-map (λ (b : Budget). b.entries) own script.apps,
-          few-entries script.apps,
-          range.calls,
-          few,
-          entries,
-        );
+        arith,
+        sum_by-append (λ (b : Budget). b.entries) all (budget ∷ []),
+        sum_by-cons (λ (b : Budget). b.entries) budget [],
+        sum-map (λ (b : Budget). b.entries) own script.apps,
+        few-entries script.apps,
+        range.calls,
+        few,
+        entries,
+      );
       bytes = omega (
-          arith,
-          sum_by-append (λ (b : Budget). b.bytes) all (budget ∷ []),
-          sum_by-cons (λ (b : Budget). b.bytes) budget [],
-          sum-map (λ (b : Budget). b.bytes) own script.apps,
-          range.bytes,
-          bytes,
-        );
+        arith,
+        sum_by-append (λ (b : Budget). b.bytes) all (budget ∷ []),
+        sum_by-cons (λ (b : Budget). b.bytes) budget [],
+        sum-map (λ (b : Budget). b.bytes) own script.apps,
+        range.bytes,
+        bytes,
+      );
       buffers = omega (
-          arith,
-          sum_by-append (λ (b : Budget). b.buffers) all (budget ∷ []),
-          sum_by-cons (λ (b : Budget). b.buffers) budget [],
-          (are-budgets script range some (omega (arith, few))).buffers,
-          can.none,
-        );
+        arith,
+        sum_by-append (λ (b : Budget). b.buffers) all (budget ∷ []),
+        sum_by-cons (λ (b : Budget). b.buffers) budget [],
+        (are-budgets script range some (omega (arith, few))).buffers,
+        can.none,
+      );
     })
+
+-- those of side 1, and of side 2
+pub budgets-one : (plan : PlanText) → IsPlan plan → (script : ScriptText) → script ≡ plan.one → (budget : Budget) → budget ≡ budget_on_one_of plan → budget.entries ≤ 40020 → AreBudgets (budgets_for (whole_of script (Some budget)))
+budgets-one plan ranges script is budget its entries =
+    subst (λ (s : ScriptText). AreBudgets (budgets_for (whole_of s (Some budget)))) (sym is)
+    (are-budgets_beside plan.one budget (subst CanBeBeside (sym its) (can-one plan)) (in_range plan.one ranges.one) ranges.one.some ranges.room_on_one entries (omega (arith, ap (λ (b : Budget). b.bytes) its)))
+
+pub budgets-two : (plan : PlanText) → IsPlan plan → (script : ScriptText) → script ≡ plan.two → (budget : Budget) → budget ≡ budget_on_two_of plan → budget.entries ≤ 20001 → budget.bytes ≤ 18057216 →
+    AreBudgets (budgets_for (whole_of script (Some budget)))
+budgets-two plan ranges script is budget its entries bytes =
+    subst (λ (s : ScriptText). AreBudgets (budgets_for (whole_of s (Some budget)))) (sym is)
+    (are-budgets_beside plan.two budget (subst CanBeBeside (sym its) (can-two plan)) (in_range plan.two ranges.two) ranges.two.some ranges.room_on_two (omega (arith, entries)) bytes)

@@ -1,11 +1,13 @@
 -- A side whose ports were joined, the bridge's last, and whose services were closed behind them.
-use Rattle.std.proofs.Common.{◌≡◌, ℕ, ◌+◌, ◌≤◌, All, Contains, List, [], ◌∷◌, ◌++◌, length, map, Some, refl, ap, sym, ◌∙◌, subst, arith, length-append}
+use Rattle.std.proofs.Common.{◌≡◌, ◌⊎◌, inl, inr, ap₂, ℕ, ◌+◌, ◌≤◌, All, Contains, List, [], ◌∷◌, ◌++◌, length, map, Some, refl, ap, sym, ◌∙◌, subst, arith, length-append}
+use Rattle.std.specs.List.{range_with_len}
 use Rattle.std.proofs.lemmas.List.{length-replicate, map-append}
 use Rattle.std.proofs.lemmas.List.Elements.{All-pop, All-weaker, All-contains_itself, Contains-push, Contains-append_left}
 use mathlib.Core.Logic.{dite}
 use native.Mathlib.Decide.{ℕ_discrete}
 use Rattle.atomic_table.specs.Seated.{TableId}
 use Rattle.fsw_base.specs.declared.config.Budget.{Budget}
+use Rattle.fsw_base.proofs.Prefix.{prefix_self, prefix_trans}
 use Rattle.bus_words.specs.declared.history.Entry.{Entry}
 use Rattle.bus_words.specs.Bus.{opening}
 use Rattle.bus_words.specs.Machine.{IsLegal}
@@ -16,9 +18,11 @@ use Rattle.tbl_words.specs.Machine.{IsLegal as IsLegalAtTables}
 use Rattle.tbl_words.specs.Tables.{opening as no_tables}
 use Rattle.tbl_load.specs.Core.{Core as TableCore, IsLegalCore as AreLegalTables, apps_of as table_apps_of}
 use Rattle.tbl_service.specs.Ports.{MainView as TablesMainView, Begins as BeginsAtTables, KeepsLongerOf as KeepsLongerAtTables}
+use Rattle.app_run.specs.declared.rotating.Finished.{Finished}
 use Rattle.app_run.specs.Runners.{histories_of}
 use Rattle.app_script.specs.Script.{Application, ScriptText, app_at}
 use Rattle.script_runs.specs.TableTrace.{TableTrace, first_handles, own_table_entries}
+use Rattle.script_runs.specs.Told.{receipts_told}
 use Rattle.script_runs.specs.Trace.{Trace, first_registers, own_entries}
 use Rattle.script_runs.specs.Written.{first_written}
 use Rattle.script_runs.proofs.ScriptHistories.{legal-known}
@@ -27,12 +31,31 @@ use Rattle.thread_run.specs.declared.works.Done.{Done}
 use Rattle.thread_run.specs.Mains.{numbers, IsJoined, AreJoined}
 use Rattle.thread_run.specs.Whole.{app_beside, whole_of}
 use Rattle.thread_run.specs.Works.{IsDone, Numbered}
-use Rattle.thread_run.proofs.Joins.{begins-longer, begins-longer_at_tables, begins-trans, begins-trans_at_tables, each-at, named, same-longer, same-longer_at_tables}
+use Rattle.thread_run.proofs.Joins.{begins-longer, begins-trans, each-at, named, same-longer}
 use Rattle.thread_run.proofs.Joins as joins
 use Rattle.thread_run.proofs.Numbers.{in-numbers}
 use Rattle.thread_run.proofs.Wholes.{app_at-whole}
 use Rattle.bridge_plan.specs.Plan.{bridge_of}
 use Rattle.bridge_runs.specs.Sides.{AreLegal, MergesBeside}
+use Rattle.sb_bridge.specs.declared.ends.EndedPorts.{EndedPorts}
+use Rattle.sb_bridge.specs.Sides.{IsClosedSide}
+
+-- ---- what the main part of the tables has seen
+
+begins-trans_at_tables : (one two three : TableCore) → BeginsAtTables one two → BeginsAtTables two three → BeginsAtTables one three
+begins-trans_at_tables one two three first then = record {
+  entries = prefix_trans one.log.entries two.log.entries three.log.entries first.entries then.entries;
+  notes = prefix_trans one.notes two.notes three.notes first.notes then.notes;
+}
+
+begins-longer_at_tables : (one other kept : TableCore) → KeepsLongerAtTables one other kept → BeginsAtTables one kept
+begins-longer_at_tables one other kept (inl longer) = subst (BeginsAtTables one) (sym longer.1) (record { entries = longer.0.entries; notes = longer.0.notes })
+begins-longer_at_tables one other kept (inr longer) =
+    subst (BeginsAtTables one) (sym longer.1) (record { entries = prefix_self one.log.entries; notes = prefix_self one.notes })
+
+same-longer_at_tables : (one other kept : TableCore) → KeepsLongerAtTables one other kept → (kept.limits ≡ one.limits) × (kept.log.budgets ≡ one.log.budgets)
+same-longer_at_tables one other kept (inl longer) = (ap (λ (core : TableCore). core.limits) longer.1, ap (λ (core : TableCore). core.log.budgets) longer.1)
+same-longer_at_tables one other kept (inr longer) = (ap (λ (core : TableCore). core.limits) longer.1, ap (λ (core : TableCore). core.log.budgets) longer.1)
 
 -- ---- all were joined
 
@@ -59,6 +82,14 @@ module _ {E : Type 0} (P : ℕ → Done → Type 0) (number : Done → ℕ) (ent
       (λ here. subst (Contains (named_in ++ app ∷ [])) (bridge ∙ sym here) (Contains-push named_in app))
       (λ other. Contains-append_left named_in (app ∷ []) k (named own P number entries is 1 k ds each p (omega (arith, q, one, other, count)))))
       (numbers all) (All-contains_itself (numbers all))))
+
+-- ---- of which script and lock
+
+pub joined-of : (one other : ScriptText) (lock its : TableId) (ds : List Done) (main : MainView) → one ≡ other → lock ≡ its → IsJoined one lock ds main → IsJoined other its ds main
+joined-of one other lock its ds main script same j = subst (λ w. IsJoined w its ds main) script (subst (λ l. IsJoined one l ds main) same j)
+
+pub joined-of_at_tables : (one other : ScriptText) (lock its : TableId) (ds : List Done) (main : TablesMainView) → one ≡ other → lock ≡ its → AreJoined one lock ds main → AreJoined other its ds main
+joined-of_at_tables one other lock its ds main script same j = subst (λ w. AreJoined w its ds main) script (subst (λ l. AreJoined one l ds main) same j)
 
 -- ---- both services, closed
 
@@ -117,32 +148,32 @@ module _ (script : ScriptText) (budget : Budget) (bus tables : TableId) (ds : Li
     table_budgets : table_core.log.budgets ≡ tables_main.seen.log.budgets
     table_budgets = t_budgets ∙ (same-longer_at_tables tables_main.seen table_seen tables_now.seen table_keeps).1
 
-    pub extends-main : Begins main.seen core
+    extends-main : Begins main.seen core
     extends-main = begins-trans main.seen now.seen core (begins-longer main.seen seen now.seen keeps).0 c_extends
 
-    pub extends-port : Begins seen core
+    extends-port : Begins seen core
     extends-port = begins-trans seen now.seen core (begins-longer main.seen seen now.seen keeps).1 c_extends
 
     tables-extend : BeginsAtTables tables_main.seen table_core
-    tables-extend = begins-trans_at_tables tables_main.seen tables_now.seen table_core (begins-longer_at_tables tables_main.seen table_seen tables_now.seen table_keeps).0 t_extends
+    tables-extend = begins-trans_at_tables tables_main.seen tables_now.seen table_core (begins-longer_at_tables tables_main.seen table_seen tables_now.seen table_keeps) t_extends
 
-    pub limits-are : core.limits ≡ script.limits
+    limits-are : core.limits ≡ script.limits
     limits-are = limits ∙ j.limits
 
-    pub table_limits-are : table_core.limits ≡ script.limits
+    table_limits-are : table_core.limits ≡ script.limits
     table_limits-are = table_limits ∙ k.limits
 
-    pub apps-are : apps_of core ≡ length script.apps + 1
+    apps-are : apps_of core ≡ length script.apps + 1
     apps-are =
         joins.closed-apps whole bus tables ds each main tables_main j k core table_core limits budgets c_legal extends-main bus_ended.0 table_limits table_budgets t_legal tables-extend tables_ended.0
         ∙ more
 
-    pub table_apps-are : table_apps_of table_core ≡ length script.apps + 1
+    table_apps-are : table_apps_of table_core ≡ length script.apps + 1
     table_apps-are =
         joins.closed-table_apps whole bus tables ds each main tables_main j k core table_core limits budgets c_legal extends-main bus_ended.0 table_limits table_budgets t_legal tables-extend tables_ended.0
         ∙ more
 
-    pub legal : AreLegal script (histories_of core table_core)
+    legal : AreLegal script (histories_of core table_core)
     legal = record {
       bus =
           subst (λ n. IsLegal script.limits n core.log.entries) more
@@ -152,7 +183,7 @@ module _ (script : ScriptText) (budget : Budget) (bus tables : TableId) (ds : Li
           (joins.closed-legal_tables whole bus tables ds each main tables_main j k core table_core limits budgets c_legal extends-main bus_ended.0 table_limits table_budgets t_legal tables-extend tables_ended.0);
     }
 
-    pub merges : MergesBeside script (histories_of core table_core)
+    merges : MergesBeside script (histories_of core table_core)
     merges = record {
       each = λ n low high.
           subst (λ (a : Application). Trace first_registers first_written a.lines (own_entries n core.log.entries)) (app_at-whole script (Some budget) n low high)
@@ -170,8 +201,31 @@ module _ (script : ScriptText) (budget : Budget) (bus tables : TableId) (ds : Li
           table_legal-known script.limits (length script.apps + 1) (no_tables script.limits (length script.apps + 1)) table_core.log.entries (length-replicate (length script.apps + 1) _) legal.tables;
     }
 
-    pub bridge-is : app ≡ bridge_of script → own_entries (bridge_of script) core.log.entries ≡ mine
+    bridge-is : app ≡ bridge_of script → own_entries (bridge_of script) core.log.entries ≡ mine
     bridge-is is = ap (λ n. own_entries n core.log.entries) (sym is) ∙ bus_ended.1
 
-    pub bridge-is_at_tables : table_app ≡ bridge_of script → own_table_entries (bridge_of script) table_core.log.entries ≡ table_mine
+    bridge-is_at_tables : table_app ≡ bridge_of script → own_table_entries (bridge_of script) table_core.log.entries ≡ table_mine
     bridge-is_at_tables is = ap (λ n. own_table_entries n table_core.log.entries) (sym is) ∙ tables_ended.1
+
+    receipts-are : map (λ (d : Done). d.receipts.receipts) ds ≡ map (receipts_told whole (histories_of core table_core)) (range_with_len 1 (length script.apps))
+    receipts-are =
+        joins.told-at whole bus tables ds each main tables_main j k core table_core limits budgets c_legal extends-main bus_ended.0 table_limits table_budgets t_legal tables-extend tables_ended.0 1 ds each j.begun k.begun
+        ∙ ap (λ n. map (receipts_told whole (histories_of core table_core)) (range_with_len 1 n)) count
+
+    pub is-closed : (first : MainView) (ports : EndedPorts) (finished : Finished) → Begins first.seen main.seen → finished.bus ≡ core → finished.tables ≡ table_core → app ≡ bridge_of script → table_app ≡ bridge_of script →
+        mine ≡ ports.port.mine → table_mine ≡ ports.tables_port.mine → seen ≡ ports.port.seen → map (λ list. list.receipts) finished.receipts.items ≡ map (λ (d : Done). d.receipts.receipts) ds → IsClosedSide script whole first ports finished
+    is-closed first ports finished before bus_is tables_is bridge table_bridge mine_is table_mine_is seen_is lists =
+        let histories = ap₂ histories_of (sym bus_is) (sym tables_is) in
+        record {
+          limits = ap (λ (c : Core). c.limits) bus_is ∙ limits-are;
+          table_limits = ap (λ (c : TableCore). c.limits) tables_is ∙ table_limits-are;
+          apps = ap apps_of bus_is ∙ apps-are;
+          table_apps = ap table_apps_of tables_is ∙ table_apps-are;
+          legal = subst (AreLegal script) histories legal;
+          merges = subst (MergesBeside script) histories merges;
+          bridge = ap (λ (c : Core). own_entries (bridge_of script) c.log.entries) bus_is ∙ bridge-is bridge ∙ mine_is;
+          bridge_at_tables = ap (λ (c : TableCore). own_table_entries (bridge_of script) c.log.entries) tables_is ∙ bridge-is_at_tables table_bridge ∙ table_mine_is;
+          extends = subst (Begins first.seen) (sym bus_is) (begins-trans first.seen main.seen core before extends-main);
+          extends_port = subst (λ (s : Core). Begins s finished.bus) seen_is (subst (Begins seen) (sym bus_is) extends-port);
+          receipts = lists ∙ receipts-are ∙ ap (λ h. map (receipts_told whole h) (range_with_len 1 (length script.apps))) histories;
+        }

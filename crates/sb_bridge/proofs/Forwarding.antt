@@ -18,7 +18,7 @@ use Rattle.sb_bridge.specs.Works.{AreTooMany, EndInTimeOut, HasBegun, HasSent, H
 use Rattle.sb_bridge.proofs.OwnBudget.{bytes_sent}
 use Rattle.sb_bridge.proofs.Waits.{budget-same, waits-append}
 
-bridges-same : (shared : RunParts) (old new : PortView) → IsSame old new → IsBridges shared old → IsBridges shared new
+pub bridges-same : (shared : RunParts) (old new : PortView) → IsSame old new → IsBridges shared old → IsBridges shared new
 bridges-same shared old new same bridges = record {
   lock = same.lock ∙ bridges.lock;
   app = same.app ∙ bridges.app;

@@ -3,11 +3,18 @@ pub mod OwnBudget
 pub mod Asked
 pub mod Waits
 pub mod FirstCalls
+pub mod Budgets
+pub mod NewPorts
+pub mod FirstSteps
+pub mod FirstOfAll
 pub mod Beginnings
 pub mod Forwarding
 pub mod Rounds
+pub mod FirstRound
 pub mod Closes
-pub mod Budgets
 pub mod Arrivals
 pub mod WholeRuns
-mod Threads
+pub mod WholeSides
+pub mod Leaving
+pub mod Begun
+mod ToThreads

@@ -5,10 +5,10 @@ use Rattle.bus_words.specs.Bus.{Active}
 use Rattle.bus_words.specs.Runs.{standing_behind}
 use Rattle.bus_service.specs.Ports.{PortView}
 use Rattle.thread_run.specs.declared.works.RunParts.{RunParts}
-use Rattle.sb_bridge.specs.declared.bridge.BridgeDone.{BridgeDone}
+use Rattle.sb_bridge.specs.declared.ends.BridgeDone.{BridgeDone}
 use Rattle.sb_bridge.specs.declared.bridge.BridgePorts.{BridgePorts}
 use Rattle.sb_bridge.specs.declared.bridge.Crossing.{Crossing}
-use Rattle.sb_bridge.specs.declared.bridge.EndedPorts.{EndedPorts}
+use Rattle.sb_bridge.specs.declared.ends.EndedPorts.{EndedPorts}
 use Rattle.sb_bridge.specs.Ports.{IsOwn, budget_of, given_in}
 use Rattle.sb_bridge.specs.Works.{EndsAs, HasStopped, IsBridges, IsForwarding, IsThrough, MayEnd}
 use Rattle.sb_bridge.proofs.Forwarding.{many, room_on_one, room_on_two}

@@ -187,7 +187,7 @@ not_refused-by_pend p old new status at made =
     let history = old.seen.log.entries ++ made.others.entries in
     let legal : IsLegal limits apps history = subst IsLegalCore made.others.grown made.others.legal in
     let owned : owns (state_after limits apps history).pipes old.app p ≡ true =
-        owned_others limits apps old.app p old.seen.log.entries made.others.entries at.own.legal legal made.others.by_others ∙ at.owned in
+    owned_others limits apps old.app p old.seen.log.entries made.others.entries at.own.legal legal made.others.by_others ∙ at.owned in
     not_refused limits history (state_after limits apps history) old.app p status owned
     (sym (made.does.as_machine ∙ ap (λ (core : Core). (step core.limits core.log.entries (state_of core) old.app (Pend p)).0) made.others.grown))
 

@@ -29,10 +29,10 @@ use Rattle.bridge_runs.specs.Bridge.{MakesPipe, first_calls, forwarding, given_b
 use Rattle.bridge_runs.specs.Bridged.{IsBridged}
 use Rattle.bridge_runs.specs.Lefts.{bytes_of}
 use Rattle.bridge_runs.specs.Sides.{EndsAlone, side_apps}
-use Rattle.sb_bridge.specs.declared.bridge.BridgeDone.{BridgeDone}
+use Rattle.sb_bridge.specs.declared.ends.BridgeDone.{BridgeDone}
 use Rattle.sb_bridge.specs.declared.bridge.BridgePorts.{BridgePorts}
 use Rattle.sb_bridge.specs.declared.bridge.Crossing.{Crossing}
-use Rattle.sb_bridge.specs.declared.bridge.EndedPorts.{EndedPorts}
+use Rattle.sb_bridge.specs.declared.ends.EndedPorts.{EndedPorts}
 use Rattle.sb_bridge.specs.Calls.{calls_in, sends_of}
 use Rattle.sb_bridge.specs.Openings.{IsFirst}
 use Rattle.sb_bridge.specs.Ports.{given_in}
@@ -108,9 +108,9 @@ module _ (plan : PlanText) (crossing : Crossing) (done : BridgeDone) (through : 
   not-too-many many =
       let extends = side_one.extends.entries in
       let few = few_given plan p (histories_of one.bus one.tables) side_one.legal side_one.merges met.seen.log.entries extends.0 through.stopped.waits extends.1 own-first calls (subst (MakesPipe p) (sym first.whole_is) first.pipe)
-          through.stopped.first begun-count (end_entry from) refl through.stopped.begun.waited own-is in
+      through.stopped.first begun-count (end_entry from) refl through.stopped.begun.waited own-is in
       let bytes = few_bytes plan p (histories_of one.bus one.tables) side_one.legal side_one.merges met.seen.log.entries extends.0 through.stopped.waits extends.1 own-first calls (subst (MakesPipe p) (sym first.whole_is) first.pipe)
-          through.stopped.first begun-count (end_entry from) refl through.stopped.begun.waited own-is in
+      through.stopped.first begun-count (end_entry from) refl through.stopped.begun.waited own-is in
       ⊎_elim
       (λ entries. omega (arith, entries, few, ap length given-is, ap (λ (b : Budget). b.entries) most))
       (λ long. omega (arith, long, bytes, ap bytes_of given-is, ap (λ (b : Budget). b.bytes) most))

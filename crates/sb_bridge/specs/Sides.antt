@@ -23,7 +23,7 @@ use Rattle.thread_run.specs.Works.{IsDone, MayWork, Numbered}
 use Rattle.bridge_plan.specs.Plan.{PlanText, bridge_of, script_of}
 use Rattle.bridge_plan.specs.Sends.{budget_on_one_of, budget_on_two_of}
 use Rattle.bridge_runs.specs.Sides.{AreLegal, MergesBeside}
-use Rattle.sb_bridge.specs.declared.bridge.EndedPorts.{EndedPorts}
+use Rattle.sb_bridge.specs.declared.ends.EndedPorts.{EndedPorts}
 use Rattle.sb_bridge.specs.declared.crews.ScriptSide.{ScriptSide}
 use Rattle.sb_bridge.specs.declared.threads.BegunSide.{BegunSide}
 use Rattle.sb_bridge.specs.declared.threads.DoneSide.{DoneSide}
@@ -42,11 +42,10 @@ pub record MayBegin (side : ScriptSide) : Type 0 where
   pub receipts_room : length side.works.items ≤ vec_capacity side.receipts
 
 -- all of a side's applications were begun, and there is room for what becomes of them
-pub record IsBegunSide (side : ScriptSide) (begun : BegunSide) : Type 0 where
-  pub shared : begun.shared ≡ side.shared
-  pub each : Numbered (IsBegun (whole side.shared) side.shared.bus.now side.shared.tables.now) 1
+pub record IsBegunSide (begun : BegunSide) : Type 0 where
+  pub each : Numbered (IsBegun (whole begun.shared) begun.shared.bus.now begun.shared.tables.now) 1
       begun.begun.items
-  pub all : length begun.begun.items ≡ length side.shared.script.now.apps
+  pub all : length begun.begun.items ≡ length begun.shared.script.now.apps
   pub none : begun.dones.items ≡ []
   pub room : length begun.begun.items ≤ vec_capacity begun.dones
   pub no_receipts : begun.receipts.items ≡ []
@@ -61,11 +60,14 @@ pub record AreThrough (script with_bridge : ScriptText) (bus tables : TableId)
   pub no_receipts : done.receipts.items ≡ []
   pub receipts_room : length done.dones.items ≤ vec_capacity done.receipts
 
+-- those that share this
+abbrev pub AreThroughOf : RunParts → DoneSide → Type 0
+AreThroughOf shared done =
+    AreThrough shared.script.now (whole shared) shared.bus.now shared.tables.now done
+
 -- those of this side
 abbrev pub IsDoneSide : ScriptSide → DoneSide → Type 0
-IsDoneSide side done =
-    AreThrough side.shared.script.now (whole side.shared) side.shared.bus.now
-    side.shared.tables.now done
+IsDoneSide side done = AreThroughOf side.shared done
 
 -- the bridge's ports are finished, and of these services
 pub record AreEnded (script : ScriptText) (bus tables : TableId)

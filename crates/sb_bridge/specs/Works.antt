@@ -19,11 +19,11 @@ use Rattle.thread_run.specs.Whole.{whole}
 use Rattle.bridge_plan.specs.Plan.{bridge_of}
 use Rattle.bridge_runs.specs.Bridge.{Waits}
 use Rattle.bridge_runs.specs.Lefts.{bytes_of}
-use Rattle.sb_bridge.specs.declared.bridge.BridgeDone.{BridgeDone}
+use Rattle.sb_bridge.specs.declared.ends.BridgeDone.{BridgeDone}
 use Rattle.sb_bridge.specs.declared.bridge.BridgeJob.{BridgeJob}
 use Rattle.sb_bridge.specs.declared.bridge.BridgePorts.{BridgePorts}
 use Rattle.sb_bridge.specs.declared.bridge.Crossing.{Crossing}
-use Rattle.sb_bridge.specs.declared.bridge.EndedPorts.{EndedPorts}
+use Rattle.sb_bridge.specs.declared.ends.EndedPorts.{EndedPorts}
 use Rattle.sb_bridge.specs.Calls.{calls_in, sends_of}
 use Rattle.sb_bridge.specs.Ports.{IsAt, IsOwn, budget_of, given_in}
 

@@ -9,14 +9,15 @@ ghost use Rattle.sb_calls.specs.Bags.{last_message};
 ghost use Rattle.ccsds_msg.specs.Message.{IsMessage};
 ghost use Rattle.sb_calls.specs.Core.{state_of};
 ghost use Rattle.sb_bridge.specs.Ports.{HasTaken, HasTimedOut, IsAt, IsOwn, LacksRoom, Sends, TakesOne, TimesOut, budget_of};
-ghost use Rattle.sb_bridge.specs.Works.{HasStopped, IsForwarding, IsThrough, MayBridge, EndsAs, MayEnd, is_of};
+ghost use Rattle.sb_bridge.specs.Works.{HasStopped, IsForwarding, IsThrough, MayBridge};
 
-use bus_service::{Bus, BusDone, BusPort};
+use crate::ends::{BridgeDone, end_on_one, end_on_two};
+use bus_service::{Bus, BusPort};
 use fsw_base::Budget;
 use sb_calls::Pended;
 use std::sync::Wait;
 use std::thread::Promise;
-use tbl_service::{TblDone, TblPort};
+use tbl_service::TblPort;
 use thread_run::RunParts;
 
 /// The bridge's ports of a side.
@@ -26,24 +27,6 @@ pub(crate) struct BridgePorts<'r> {
     pub(crate) port: BusPort<'r>,
     /// Of the tables.
     pub(crate) tables_port: TblPort<'r>,
-}
-
-/// What is left of them, finished.
-#[derive(Drop)]
-pub(crate) struct EndedPorts {
-    /// Of the port of the bus.
-    pub(crate) port: BusDone,
-    /// Of that of the tables.
-    pub(crate) tables_port: TblDone,
-}
-
-/// What is left of the bridge. It names no lifetime, so a thread may promise it.
-#[derive(Drop)]
-pub(crate) struct BridgeDone {
-    /// On side 1.
-    pub(crate) from: EndedPorts,
-    /// On side 2.
-    pub(crate) to: EndedPorts,
 }
 
 /// A bridge between two buses, and a thread's promise: what it sent is what its pipe gave, each
@@ -94,10 +77,8 @@ pub(crate) fn run_one<'e, 'r, R: Wait>(rt: &R, job: BridgeJob<'e, 'r>) -> Bridge
     } = job;
     for _ in rt.forever() {
         if !pass_one(rt, crossing, &mut from.port, &mut to.port) {
-            return BridgeDone {
-                from: end_ports(rt, crossing.one, from),
-                to: end_ports(rt, crossing.two, to),
-            };
+            let ended = end_on_one(rt, crossing, from);
+            return end_on_two(rt, crossing, to, ended);
         }
     }
     unreachable!()
@@ -114,8 +95,10 @@ fn pass_one<'r, R: Wait>(
     ensures on { IsTrue result → IsForwarding crossing.entry from.new to.new }
     ensures stops { result ≡ false → HasStopped crossing.entry from.new to.new }
 {
-    take_next(rt, crossing.one.bus, from, crossing.pipe)
-        && forward(rt, from, crossing.pipe, crossing.two.bus, to)
+    if !take_next(rt, crossing.one.bus, from, crossing.pipe) {
+        return false;
+    }
+    forward(rt, from, crossing.pipe, crossing.two.bus, to)
 }
 
 // Takes the next message from the bridge's pipe, which is then the pipe's last, and waits for it;
@@ -215,22 +198,4 @@ fn has_room(to: &BusPort<'_>, message: &[u8]) -> bool
         nat_le (length message.now) (allowance_of (left_of to.now.seen.log) to.now.app).bytes) }
 {
     2 <= to.entries_left() && message.len() <= to.bytes_left() as usize
-}
-
-// Ends on a side, at the tables first and then at the bus.
-fn end_ports<'r, R: Wait>(
-    rt: &R,
-    shared: RunParts<'_, 'r>,
-    mut ports: BridgePorts<'r>,
-) -> EndedPorts
-    requires { MayEnd shared ports }
-    ensures { EndsAs ports.entry result }
-{
-    ports.tables_port.end(shared.tables, rt);
-    ports.port.end(shared.bus, rt);
-    ports.port.recall();
-    EndedPorts {
-        port: ports.port.finish(),
-        tables_port: ports.tables_port.finish(),
-    }
 }

@@ -4,7 +4,7 @@ ghost use Rattle.thread_run.specs.Mains.{AreJoined, IsJoined};
 ghost use Rattle.bridge_plan.specs.Plan.{script_of};
 ghost use Rattle.sb_bridge.specs.Sides.{AreEnded, AreThrough, IsClosedSide, whole_on};
 
-use crate::bridge::EndedPorts;
+use crate::ends::EndedPorts;
 use crate::run::parts_of;
 use crate::threads::DoneSide;
 use app_run::Finished;

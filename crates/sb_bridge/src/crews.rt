@@ -1,5 +1,5 @@
 //! The applications of a side and the bridge there, before their first calls.
-ghost use Rattle.std.specs.Prelude.{◌≡◌, length, IfOk};
+ghost use Rattle.std.specs.Prelude.{◌≡◌, ◌≤◌, length, vec_capacity, IfOk};
 ghost use Rattle.bridge_plan.specs.Plan.{bridge_of};
 ghost use Rattle.thread_run.specs.Mains.{AreOpen, IsOpen};
 ghost use Rattle.thread_run.specs.Whole.{whole};
@@ -56,6 +56,8 @@ pub(crate) fn crew_of<'e, 'r>(
         (length (whole shared.entry).apps) tables_main.new) }
     ensures shared { IfOk result (λ crew. crew.side.shared ≡ shared.entry) }
     ensures side { IfOk result (λ crew. MayBegin crew.side) }
+    ensures room { IfOk result
+        (λ crew. length crew.side.works.items ≤ vec_capacity crew.side.works) }
     ensures ports { IfOk result (λ crew. AreNew shared.entry crew.ports) }
 {
     let works = open_works(alloc, shared, bus_main, tables_main)?;

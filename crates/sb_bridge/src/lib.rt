@@ -26,6 +26,7 @@
 mod bridge;
 mod closing;
 mod crews;
+mod ends;
 mod gates;
 mod opening;
 mod run;

@@ -8,7 +8,9 @@ ghost use Rattle.thread_run.specs.Mains.{IsOpen, AreOpen, IsJoined};
 ghost use Rattle.thread_run.specs.Whole.{whole};
 ghost use Rattle.thread_run.specs.Works.{MayWork, Numbered};
 ghost use Rattle.sb_bridge.specs.Openings.{AreNew, HasCalled, HasCreated, IsFirst, subscriptions};
+ghost use Rattle.sb_bridge.specs.Calls.{bytes_in, calls_in};
 ghost use Rattle.sb_bridge.specs.Ports.{IsOwn, budget_of};
+ghost use Rattle.sb_bridge.specs.Works.{IsBridges};
 
 use crate::bridge::BridgePorts;
 use bridge_plan::BridgePlan;
@@ -72,6 +74,7 @@ pub(crate) fn begin_bridge<'e, 'r, R: Wait>(
     requires room { length works.old.items ≤ vec_capacity works.old }
     ensures main { IsJoined (whole shared.entry) shared.entry.bus.now [] bus_main.new }
     ensures first { IsFirst plan.now result bus_main.new.seen.log.entries ports.new.port }
+    ensures bridges { IsBridges shared.entry ports.new.port }
     ensures port { ports.new ≡ record ports.old { port = ports.new.port } }
     ensures works { Numbered (MayWork (whole shared.entry) shared.entry.bus.now
         shared.entry.tables.now) 1 works.new.items }
@@ -87,7 +90,16 @@ pub(crate) fn begin_bridge<'e, 'r, R: Wait>(
 
 // Creates the bridge's pipe, as deep as the configuration allows. It is the first on its bus, so
 // the call is accepted; that nobody called before is known once the main part saw it.
-fn make_pipe<'r, R: Wait>(rt: &R, plan: &BridgePlan, bus: &Bus<'r>, port: &mut BusPort<'r>) -> u32 {
+fn make_pipe<'r, R: Wait>(rt: &R, plan: &BridgePlan, bus: &Bus<'r>, port: &mut BusPort<'r>) -> u32
+    requires bus { port.old.lock ≡ bus.now }
+    requires own { IsOwn port.old }
+    requires active { standing_behind port.old.mine ≡ Active }
+    requires room { length port.old.mine + 1 ≤ (budget_of port.old).entries }
+    requires bytes { bytes_in (calls_in port.old.mine) + 6 ≤ (budget_of port.old).bytes }
+    ensures made { HasCreated plan.now result port.old port.new }
+    ensures depth { 1 ≤ plan.now.one.limits.depth }
+    ensures pipes { 1 ≤ plan.now.one.limits.pipes }
+{
     let depth = plan.script(1).config().depth;
     let made = port.create_pipe(bus, rt, depth, BRIDGE);
     port.recall();

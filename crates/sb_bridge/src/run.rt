@@ -1,23 +1,23 @@
 //! Both sides and the bridge, each application on a thread of its own.
-ghost use Rattle.std.specs.Prelude.{◌≡◌, ◌⊎◌, length, map, IfOk, Some};
-ghost use Rattle.std.specs.List.{range_with_len};
+ghost use Rattle.std.specs.Prelude.{◌≡◌, ◌⊎◌, [], length, IfOk, Some};
 ghost use Rattle.app_run.specs.Openings.{HaveRoom};
 ghost use Rattle.app_run.specs.Runners.{histories_of};
 ghost use Rattle.bridge_plan.specs.Plan.{script_of};
 ghost use Rattle.bridge_runs.specs.Bridged.{IsBridged};
-ghost use Rattle.script_runs.specs.Told.{receipts_told};
-ghost use Rattle.thread_run.specs.Mains.{AreOpen, IsOpen};
-ghost use Rattle.sb_bridge.specs.Left.{Leaves};
+ghost use Rattle.thread_run.specs.Mains.{AreOpen, IsJoined, IsOpen};
+ghost use Rattle.thread_run.specs.Whole.{whole};
+ghost use Rattle.sb_bridge.specs.Crews.{AreAllThrough, IsCrewOf};
+ghost use Rattle.sb_bridge.specs.Left.{Leaves, LeavesSide};
 ghost use Rattle.sb_bridge.specs.Sides.{budget_on, whole_on};
 
 use crate::bridge::{BridgeJob, Crossing};
 use crate::closing::close_side;
 use crate::crews::{Crew, crew_of};
 use crate::opening::begin_bridge;
-use crate::threads::run_all;
+use crate::threads::{BothEnded, run_all};
 use app_run::{Finished, Regions};
 use bridge_plan::BridgePlan;
-use bus_service::Bus;
+use bus_service::{Bus, BusMain};
 use fsw_base::{Budget, Gate};
 use std::alloc::{AllocError, Global};
 use std::sync::Wait;
@@ -64,15 +64,13 @@ pub fn run_bridge<'r, R: Threads + Wait + Sync, G: Gate>(
     ensures bridged { IfOk result
         (λ left. IsBridged plan.now (histories_of left.one.bus left.one.tables)
         (histories_of left.two.bus left.two.tables)) }
-    ensures receipts_on_one { IfOk result
-        (λ left. map (λ list. list.receipts) left.one.receipts.items ≡
-        map (receipts_told (whole_on plan.now 1) (histories_of left.one.bus left.one.tables))
-        (range_with_len 1 (length plan.now.one.apps))) }
-    ensures receipts_on_two { IfOk result
-        (λ left. map (λ list. list.receipts) left.two.receipts.items ≡
-        map (receipts_told (whole_on plan.now 2) (histories_of left.two.bus left.two.tables))
-        (range_with_len 1 (length plan.now.two.apps))) }
+
+    // And what each side leaves.
+    ensures one { IfOk result (λ left. LeavesSide plan.now 1 left.one) }
+    ensures two { IfOk result (λ left. LeavesSide plan.now 2 left.two) }
 {
+    // Does nothing; the proof learns of it what plans there can be.
+    plan.recall_ranges();
     let first = open_services(alloc, plan.script(1), Some(plan.budget_on_one()), one)?;
     let second = open_services(alloc, plan.script(2), Some(plan.budget_on_two()), two)?;
     run_open(rt, alloc, plan, gate, first, second)
@@ -87,64 +85,69 @@ fn run_open<'r, R: Threads + Wait + Sync, G: Gate>(
     mut first: OpenServices<'r>,
     mut second: OpenServices<'r>,
 ) -> Result<Bridged<'r>, AllocError>
-    requires bus_one { IsOpen (whole_on plan.now 1)
-        first.bus 0 first.bus_main }
-    requires tables_one { AreOpen (whole_on plan.now 1)
-        first.tables 0 first.tables_main }
-    requires bus_two { IsOpen (whole_on plan.now 2)
-        second.bus 0 second.bus_main }
-    requires tables_two { AreOpen (whole_on plan.now 2)
-        second.tables 0 second.tables_main }
+    requires bus_one { IsOpen (whole_on plan.now 1) first.bus 0 first.bus_main }
+    requires tables_one { AreOpen (whole_on plan.now 1) first.tables 0 first.tables_main }
+    requires bus_two { IsOpen (whole_on plan.now 2) second.bus 0 second.bus_main }
+    requires tables_two { AreOpen (whole_on plan.now 2) second.tables 0 second.tables_main }
     ensures { IfOk result (λ left. Leaves plan.now left) }
 {
-    let one = parts_of(plan, 1, &first.bus, &first.tables);
-    let two = parts_of(plan, 2, &second.bus, &second.tables);
-    let Crew {
-        side: mut side_one,
-        ports: mut ports_one,
-    } = crew_of(
+    let one = crew_of(
         alloc,
-        one,
+        parts_of(plan, 1, &first.bus, &first.tables),
         plan.bridge(1),
         &mut first.bus_main,
         &mut first.tables_main,
     )?;
-    let Crew {
-        side: side_two,
-        ports: ports_two,
-    } = crew_of(
+    let two = crew_of(
         alloc,
-        two,
+        parts_of(plan, 2, &second.bus, &second.tables),
         plan.bridge(2),
         &mut second.bus_main,
         &mut second.tables_main,
     )?;
     // From here on nothing has an allocator.
-    let pipe = begin_bridge(
-        rt,
-        plan,
-        one,
-        &mut first.bus_main,
-        &mut ports_one,
-        &mut side_one.works,
-    );
-    let crossing = Crossing {
-        one,
-        two,
-        pipe,
-        firsts: plan.routes() + 1,
-        most: plan.budget_on_two(),
-    };
-    let bridge = BridgeJob {
-        crossing,
-        from: ports_one,
-        to: ports_two,
-    };
-    let ended = run_all(rt, gate, bridge, side_one, side_two);
+    let ended = run_crews(rt, plan, gate, &mut first.bus_main, one, two);
     Ok(Bridged {
         one: close_side(plan, 1, first, ended.one, ended.bridge.from),
         two: close_side(plan, 2, second, ended.two, ended.bridge.to),
     })
+}
+
+// Runs the applications of both sides and the bridge to their ends. The bridge makes its first
+// calls before an application is started.
+fn run_crews<'r, R: Threads + Wait + Sync, G: Gate>(
+    rt: &R,
+    plan: &BridgePlan,
+    gate: &G,
+    bus_main: &mut BusMain,
+    one: Crew<'_, 'r>,
+    two: Crew<'_, 'r>,
+) -> BothEnded
+    requires one { IsCrewOf plan.now 1 one }
+    requires two { IsCrewOf plan.now 2 two }
+    requires bus { IsOpen (whole one.side.shared) one.side.shared.bus.now
+        (length (whole one.side.shared).apps) bus_main.old }
+    ensures main { IsJoined (whole one.entry.side.shared) one.entry.side.shared.bus.now []
+        bus_main.new }
+    ensures ended { AreAllThrough plan.now one.entry.side two.entry.side bus_main.new result }
+{
+    let Crew {
+        mut side,
+        mut ports,
+    } = one;
+    let pipe = begin_bridge(rt, plan, side.shared, bus_main, &mut ports, &mut side.works);
+    let bridge = BridgeJob {
+        crossing: Crossing {
+            one: side.shared,
+            two: two.side.shared,
+            pipe,
+            firsts: plan.routes() + 1,
+            most: plan.budget_on_two(),
+        },
+        from: ports,
+        to: two.ports,
+    };
+    run_all(rt, gate, bridge, side, two.side)
 }
 
 /// What the applications of a side share.

@@ -1,10 +1,11 @@
 //! The applications of both sides and the bridge, each on its thread.
-ghost use Rattle.sb_bridge.specs.Sides.{IsBegunSide, IsDoneSide, MayBegin};
-ghost use Rattle.sb_bridge.specs.declared.crews.ScriptSide.{ScriptSide};
+ghost use Rattle.std.specs.Prelude.{◌≡◌};
+ghost use Rattle.sb_bridge.specs.Sides.{AreThroughOf, IsBegunSide, IsDoneSide, MayBegin};
 ghost use Rattle.sb_bridge.specs.Works.{IsThrough, MayBridge};
 
-use crate::bridge::{BridgeDone, BridgeJob, run_one};
+use crate::bridge::{BridgeJob, run_one};
 use crate::crews::ScriptSide;
+use crate::ends::BridgeDone;
 use crate::gates::GateOfTwo;
 use bus_words::ReceiptList;
 use fsw_base::Gate;
@@ -149,7 +150,8 @@ fn begin_side<'s, 'x, 'e: 's, 'r: 's, R: Threads + Wait + Sync, G: Gate>(
     side: ScriptSide<'e, 'r>,
 ) -> BegunSide<'e, 'r>
     requires { MayBegin side }
-    ensures { IsBegunSide side.entry result }
+    ensures begun { IsBegunSide result }
+    ensures shared { result.shared ≡ side.entry.shared }
 {
     let ScriptSide {
         shared,
@@ -170,9 +172,8 @@ fn begin_side<'s, 'x, 'e: 's, 'r: 's, R: Threads + Wait + Sync, G: Gate>(
 
 // Waits for the ends of a side's applications.
 fn end_side<'e, 'r, R: Threads>(rt: &R, side: BegunSide<'e, 'r>) -> DoneSide
-    ghost begun: { ScriptSide }
-    requires { IsBegunSide begun side }
-    ensures { IsDoneSide begun result }
+    requires { IsBegunSide side }
+    ensures { AreThroughOf side.entry.shared result }
 {
     let BegunSide {
         shared,

@@ -34,7 +34,7 @@ loop-preserved g c = (
   tt,
   c.look-told.ensures.answers.lock ∙ c.loop.invariant.2,
   looked-in-vain c.args._pipe c.args.from.now c.loop.from c.look-told.new.self c.args.from.now.mine c.loop.invariant.3
-  (subst (λ told. AnswersLook c.loop.from c.look-told.new.self c.args._pipe told) c.in-Pending.is
-  (subst (λ pipe. AnswersLook c.loop.from c.look-told.new.self pipe c.look-told.result) (waited-is c.args._pipe c.loop.from c.loop.invariant.3.at.own c.loop.invariant.3.waiting) c.look-told.ensures.answers))
-  c.recall.ensures.mine,
+      (subst (λ told. AnswersLook c.loop.from c.look-told.new.self c.args._pipe told) c.in-Pending.is
+      (subst (λ pipe. AnswersLook c.loop.from c.look-told.new.self pipe c.look-told.result) (waited-is c.args._pipe c.loop.from c.loop.invariant.3.at.own c.loop.invariant.3.waiting) c.look-told.ensures.answers))
+      c.recall.ensures.mine,
 )
