@@ -138,7 +138,7 @@ pub both-run : (plan : PlanText) (one two : Finished) → LeavesSide plan 1 one 
 both-run plan one two on_one on_two =
     let first = side-run plan 1 one on_one in
     let second = side-run plan 2 two on_two in
-    λ i. (codes "side 1\n" ++ first i) ++ codes "side 2\n" ++ second i
+    λ i. (codes "side 1\n" ++ first i) ++ (codes "side 2\n" ++ second i)
 
 -- where what a run left is shown and its text is due of the plan, the plan ended so
 pub ends-plan : (result : HostStatus) (plan : PlanText) (one two : Histories) (text : List ℕ) (old new : Made) → IsBridged plan one two → text ≡ both_reports plan one two →

@@ -1,6 +1,5 @@
 -- One text behind another, each written in a call of its own.
-use Rattle.std.proofs.Common.{◌≡◌, ℕ, ◌≤◌, List, ◌++◌, Option, ap, sym, ◌∙◌, arith, append_assoc}
-use Rattle.fsw_base.specs.Outside.{Rose}
+use Rattle.std.proofs.Common.{◌≡◌, ℕ, List, ◌++◌, Option, Result, Ok, Err, OnErr, ap, sym, ◌∙◌, append_assoc}
 use Rattle.text_page.specs.Pieces.{Grew, CutShort}
 use Rattle.text_page.proofs.PieceTexts.{grew_then}
 
@@ -22,6 +21,7 @@ cut_second a b c s t grew cut = record {
   bytes = grew_then a s cut.sent grew cut.bytes;
 }
 
--- a count that rose behind one that never falls
-pub rose_later : (a b c : ℕ) → a ≤ b → Rose b c → Rose a c
-rose_later a b c kept rose = omega (arith, kept, rose)
+-- what holds anyway holds of a failure
+pub on_err_any : {T E P : Type 0} (r : Result T E) → P → OnErr r P
+on_err_any (Ok x) holds = tt
+on_err_any (Err e) holds = holds

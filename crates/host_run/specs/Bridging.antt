@@ -28,7 +28,7 @@ side_report plan side histories =
 -- the reports of both sides, each behind a line with its side
 abbrev pub both_reports : PlanText → Histories → Histories → List ℕ
 both_reports plan one two =
-    (codes "side 1\n" ++ side_report plan 1 one) ++ codes "side 2\n" ++ side_report plan 2 two
+    (codes "side 1\n" ++ side_report plan 1 one) ++ (codes "side 2\n" ++ side_report plan 2 two)
 
 -- The histories of side 1 and then those of side 2 were put behind those shown before, or nothing
 -- is shown from now on.
