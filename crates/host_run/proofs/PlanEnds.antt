@@ -2,7 +2,6 @@
 use Rattle.std.proofs.Common.{◌≡◌, ℕ, ◌≤◌, List, [], ◌∷◌, ◌++◌, length, map, codes, Option, Some, None, Result, Ok, Err, IfOk, IfErr, inl, inr, refl, sym, ap, subst, ◌∙◌, arith, append_assoc}
 use Rattle.std.specs.List.{range_with_len}
 use Rattle.std.specs.Option.{option_map}
-use Rattle.fsw_base.specs.Outside.{Rose}
 use Rattle.text_page.specs.Pieces.{Grew, CutShort}
 use Rattle.app_run.specs.Runners.{histories_of}
 use Rattle.app_run.specs.declared.rotating.Finished.{Finished}

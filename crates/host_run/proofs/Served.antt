@@ -3,7 +3,7 @@ use Rattle.std.proofs.Common.{◌≡◌, ℕ, List, Option, Some, None, subst}
 use Rattle.script_generate.specs.Generated.{generated}
 use Rattle.script_printing.specs.ScriptSpelling.{spelled_script}
 use Rattle.script_runs.specs.Histories.{Histories}
-use Rattle.host_run.specs.Serve.{Fed, Made, Outside, Served, Serves, Bridges, Runs, Shows, Packs, Judges, OtherWords, Soaks, HasCauses, MakesNothing, OnThreads, Rotating}
+use Rattle.host_run.specs.Serve.{Fed, Made, Outside, Served, Serves, Shows, Packs, Judges, OtherWords, Soaks, HasCauses, MakesNothing, OnThreads, Rotating}
 use Rattle.host_run.specs.declared.reporting.Part.TheVariants.{Ending}
 use Rattle.host_run.specs.declared.words.Task.{Task}
 use Rattle.host_run.specs.declared.words.Task.TheVariants as task
@@ -23,36 +23,6 @@ causes-task wanted result fed fed' old new serves task.Bridge is = causes-bridge
 causes-task wanted result fed fed' old new serves task.Check is = causes-judges result fed fed' old new (serves.judges is)
 causes-task wanted result fed fed' old new serves task.ShowImage is = causes-shows result fed fed' old new (serves.shows is)
 causes-task wanted result fed fed' old new serves (task.Pack name offset sub) is = causes-packs result name offset sub fed fed' old new (serves.packs name offset sub is)
-
--- what happens on `run` is what happens
-pub serves-run : (wanted : Option Task) (result : HostStatus) (fed fed' : Fed) (old new : Made) → wanted ≡ Some task.Run → Runs OnThreads result fed fed' old new →
-    Serves wanted result fed fed' old new
-serves-run wanted result fed fed' old new is done = record {
-  on_threads = λ words. done;
-  lockstep = λ words. absurd (cc (is, words));
-  generates = λ number words. absurd (cc (is, words));
-  soaks = λ number words. absurd (cc (is, words));
-  bridges = λ words. absurd (cc (is, words));
-  judges = λ words. absurd (cc (is, words));
-  shows = λ words. absurd (cc (is, words));
-  packs = λ name offset sub words. absurd (cc (is, words));
-  other_words = λ words. absurd (cc (is, words));
-}
-
--- what happens on `bridge` is what happens
-pub serves-bridges : (wanted : Option Task) (result : HostStatus) (fed fed' : Fed) (old new : Made) → wanted ≡ Some task.Bridge → Bridges result fed fed' old new →
-    Serves wanted result fed fed' old new
-serves-bridges wanted result fed fed' old new is done = record {
-  on_threads = λ words. absurd (cc (is, words));
-  lockstep = λ words. absurd (cc (is, words));
-  generates = λ number words. absurd (cc (is, words));
-  soaks = λ number words. absurd (cc (is, words));
-  bridges = λ words. done;
-  judges = λ words. absurd (cc (is, words));
-  shows = λ words. absurd (cc (is, words));
-  packs = λ name offset sub words. absurd (cc (is, words));
-  other_words = λ words. absurd (cc (is, words));
-}
 
 -- what happens on words that the program doesn't know is what happens
 pub serves-other : (wanted : Option Task) (result : HostStatus) (fed fed' : Fed) (old new : Made) → wanted ≡ None → OtherWords result fed fed' old new → Serves wanted result fed fed' old new
