@@ -22,6 +22,12 @@ use Rattle.sb_bridge.specs.Sides.{AreEnded, AreThrough, IsClosedSide, MayBegin, 
 use Rattle.sb_bridge.specs.Works.{EndsAs, MayEnd}
 use Rattle.sb_bridge.proofs.Closes.{joined-of, joined-of_at_tables}
 
+pub opens-of : (w : ScriptText) (lock its : TableId) (n : ℕ) (main now : MainView) → its ≡ lock → now ≡ main → IsOpen w lock n main → IsOpen w its n now
+opens-of w lock its n main now same is opens = subst (λ l. IsOpen w l n now) (sym same) (subst (λ m. IsOpen w lock n m) (sym is) opens)
+
+pub opens-of_at_tables : (w : ScriptText) (lock its : TableId) (n : ℕ) (main now : TablesMainView) → its ≡ lock → now ≡ main → AreOpen w lock n main → AreOpen w its n now
+opens-of_at_tables w lock its n main now same is opens = subst (λ l. AreOpen w l n now) (sym same) (subst (λ m. AreOpen w lock n m) (sym is) opens)
+
 module _ (plan : PlanText) (side : ℕ) (shared : RunParts) (bus tables : TableId) (script : shared.script.now ≡ script_of plan side) (beside : shared.beside ≡ Some (budget_on plan side))
     (bus_is : shared.bus.now ≡ bus) (tables_are : shared.tables.now ≡ tables) where
   its : whole shared ≡ whole_on plan side

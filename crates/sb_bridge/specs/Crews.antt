@@ -6,9 +6,10 @@ use Rattle.bridge_plan.specs.Sends.{budget_on_two_of}
 use Rattle.sb_bridge.specs.declared.bridge.Crossing.{Crossing}
 use Rattle.sb_bridge.specs.declared.crews.Crew.{Crew}
 use Rattle.sb_bridge.specs.declared.crews.ScriptSide.{ScriptSide}
+use Rattle.sb_bridge.specs.declared.run.SecondClosed.{SecondClosed}
 use Rattle.sb_bridge.specs.declared.threads.BothEnded.{BothEnded}
 use Rattle.sb_bridge.specs.Openings.{AreNew, IsFirst}
-use Rattle.sb_bridge.specs.Sides.{IsDoneSide, MayBegin, budget_on}
+use Rattle.sb_bridge.specs.Sides.{IsClosedSide, IsDoneSide, MayBegin, budget_on, whole_on}
 use Rattle.sb_bridge.specs.Works.{IsThrough}
 
 -- the applications of a side of the plan, with the bridge there, may begin
@@ -33,3 +34,15 @@ pub record AreAllThrough (plan : PlanText) (one two : ScriptSide) (main : MainVi
   pub port : PortView
   pub first : IsFirst plan crossing.pipe main.seen.log.entries port
   pub bridge : IsThrough crossing ended.bridge
+
+-- All are through, with this left of side 1, and side 2 is closed.
+pub record IsSecondClosed (plan : PlanText) (one : ScriptSide) (main : MainView)
+    (left : SecondClosed) : Type 0 where
+  pub two : ScriptSide
+  pub ended : BothEnded
+  pub all : AreAllThrough plan one two main ended
+  pub done : left.done ≡ ended.one
+  pub from : left.from ≡ ended.bridge.from
+  pub script : two.shared.script.now ≡ plan.two
+  pub main_two : MainView
+  pub closed : IsClosedSide plan.two (whole_on plan 2) main_two ended.bridge.to left.two

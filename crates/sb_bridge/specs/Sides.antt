@@ -34,6 +34,7 @@ HasBridge shared = length (whole shared).apps ≡ length shared.script.now.apps 
 
 -- the applications of the script may begin, and there is room for what becomes of them
 pub record MayBegin (side : ScriptSide) : Type 0 where
+  pub beside : HasBridge side.shared
   pub works : Numbered (MayWork (whole side.shared) side.shared.bus.now side.shared.tables.now) 1
       side.works.items
   pub all : length side.works.items ≡ length side.shared.script.now.apps
@@ -50,6 +51,7 @@ pub record IsBegunSide (begun : BegunSide) : Type 0 where
   pub room : length begun.begun.items ≤ vec_capacity begun.dones
   pub no_receipts : begun.receipts.items ≡ []
   pub receipts_room : length begun.begun.items ≤ vec_capacity begun.receipts
+  pub asked : length (whole begun.shared).apps ≤ begun.starts
 
 -- all of a side's applications are through: of this script, which with the bridge is the whole one,
 -- and of these services

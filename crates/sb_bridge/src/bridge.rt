@@ -18,7 +18,7 @@ use sb_calls::Pended;
 use std::sync::Wait;
 use std::thread::Promise;
 use tbl_service::TblPort;
-use thread_run::RunParts;
+use thread_run::{OfRun, RunParts};
 
 /// The bridge's ports of a side.
 #[derive(Drop)]
@@ -49,6 +49,18 @@ impl<'e, 'r> Promise<BridgeDone> for Crossing<'e, 'r> {
     ghost use Rattle.sb_bridge.specs.Works.{IsThrough};
 
     ghost kept_by = { IsThrough };
+}
+
+impl<'e, 'r> OfRun for Crossing<'e, 'r> {
+    ghost use Rattle.std.specs.Prelude.{length};
+    ghost use Rattle.thread_run.specs.Whole.{whole};
+
+    // As those of side 2, of which it is one.
+    ghost run_apps = { λ crossing. length (whole crossing.two).apps };
+
+    fn apps(&self) -> u32 {
+        self.two.apps()
+    }
 }
 
 /// The bridge's run, as its thread is given it: in one value, which the thread's closure moves

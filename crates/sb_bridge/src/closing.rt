@@ -27,7 +27,7 @@ pub(crate) fn close_side<'r>(
         opened.tables done }
     requires ports { AreEnded (script_of plan.now side) opened.bus opened.tables ports }
     ensures { IsClosedSide (script_of plan.now side) (whole_on plan.now side) opened.entry.bus_main
-        ports.entry result }
+        ports result }
 {
     let DoneSide {
         mut dones,

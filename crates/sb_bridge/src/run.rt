@@ -6,15 +6,17 @@ ghost use Rattle.bridge_plan.specs.Plan.{script_of};
 ghost use Rattle.bridge_runs.specs.Bridged.{IsBridged};
 ghost use Rattle.thread_run.specs.Mains.{AreOpen, IsJoined, IsOpen};
 ghost use Rattle.thread_run.specs.Whole.{whole};
-ghost use Rattle.sb_bridge.specs.Crews.{AreAllThrough, IsCrewOf};
+ghost use Rattle.sb_bridge.specs.Crews.{AreAllThrough, IsCrewOf, IsSecondClosed};
 ghost use Rattle.sb_bridge.specs.Left.{Leaves, LeavesSide};
 ghost use Rattle.sb_bridge.specs.Sides.{budget_on, whole_on};
 
 use crate::bridge::{BridgeJob, Crossing};
 use crate::closing::close_side;
 use crate::crews::{Crew, crew_of};
+use crate::gates::GateOfTwo;
 use crate::opening::begin_bridge;
-use crate::threads::{BothEnded, run_all};
+use crate::ends::EndedPorts;
+use crate::threads::{BothEnded, DoneSide, run_all};
 use app_run::{Finished, Regions};
 use bridge_plan::BridgePlan;
 use bus_service::{Bus, BusMain};
@@ -77,13 +79,13 @@ pub fn run_bridge<'r, R: Threads + Wait + Sync, G: Gate>(
 }
 
 // Runs both sides and the bridge, which are open.
-fn run_open<'r, R: Threads + Wait + Sync, G: Gate>(
-    rt: &R,
+fn run_open<'p, 'r, R: Threads + Wait + Sync, G: Gate>(
+    rt: &'p R,
     alloc: Global,
-    plan: &BridgePlan,
-    gate: &G,
-    mut first: OpenServices<'r>,
-    mut second: OpenServices<'r>,
+    plan: &'p BridgePlan,
+    gate: &'p G,
+    first: OpenServices<'r>,
+    second: OpenServices<'r>,
 ) -> Result<Bridged<'r>, AllocError>
     requires bus_one { IsOpen (whole_on plan.now 1) first.bus 0 first.bus_main }
     requires tables_one { AreOpen (whole_on plan.now 1) first.tables 0 first.tables_main }
@@ -91,37 +93,99 @@ fn run_open<'r, R: Threads + Wait + Sync, G: Gate>(
     requires tables_two { AreOpen (whole_on plan.now 2) second.tables 0 second.tables_main }
     ensures { IfOk result (λ left. Leaves plan.now left) }
 {
-    let one = crew_of(
-        alloc,
-        parts_of(plan, 1, &first.bus, &first.tables),
-        plan.bridge(1),
-        &mut first.bus_main,
-        &mut first.tables_main,
-    )?;
-    let two = crew_of(
-        alloc,
-        parts_of(plan, 2, &second.bus, &second.tables),
-        plan.bridge(2),
-        &mut second.bus_main,
-        &mut second.tables_main,
-    )?;
-    // From here on nothing has an allocator.
-    let ended = run_crews(rt, plan, gate, &mut first.bus_main, one, two);
+    let OpenServices {
+        bus,
+        mut bus_main,
+        tables,
+        mut tables_main,
+    } = first;
+    let shared = parts_of(plan, 1, &bus, &tables);
+    let number = plan.bridge(1);
+    let one = crew_of(alloc, shared, number, &mut bus_main, &mut tables_main)?;
+    let left = run_second(rt, alloc, plan, gate, &mut bus_main, one, second)?;
+    let first = OpenServices {
+        bus,
+        bus_main,
+        tables,
+        tables_main,
+    };
     Ok(Bridged {
-        one: close_side(plan, 1, first, ended.one, ended.bridge.from),
-        two: close_side(plan, 2, second, ended.two, ended.bridge.to),
+        one: close_side(plan, 1, first, left.done, left.from),
+        two: left.two,
+    })
+}
+
+/// What is left of side 1, before it is closed, and of side 2.
+#[derive(Drop)]
+pub(crate) struct SecondClosed<'r> {
+    /// Of the applications of side 1.
+    pub(crate) done: DoneSide,
+    /// Of the bridge's ports there.
+    pub(crate) from: EndedPorts,
+    /// Of side 2.
+    pub(crate) two: Finished<'r>,
+}
+
+// Runs both sides and the bridge, where the applications of side 1 may begin, and closes side 2.
+fn run_second<'a, 'r, R: Threads + Wait + Sync, G: Gate>(
+    rt: &'a R,
+    alloc: Global,
+    plan: &'a BridgePlan,
+    gate: &'a G,
+    met: &mut BusMain,
+    one: Crew<'a, 'r>,
+    second: OpenServices<'r>,
+) -> Result<SecondClosed<'r>, AllocError>
+    requires one { IsCrewOf plan.now 1 one }
+    requires bus_one { IsOpen (whole one.side.shared) one.side.shared.bus.now
+        (length (whole one.side.shared).apps) met.old }
+    requires bus_two { IsOpen (whole_on plan.now 2) second.bus 0 second.bus_main }
+    requires tables_two { AreOpen (whole_on plan.now 2) second.tables 0 second.tables_main }
+    ensures main { IfOk result (λ _. IsJoined (whole one.entry.side.shared)
+        one.entry.side.shared.bus.now [] met.new) }
+    ensures closed { IfOk result (λ left. IsSecondClosed plan.now one.entry.side met.new left) }
+{
+    let gate_of_two = GateOfTwo { gate };
+    let OpenServices {
+        bus,
+        mut bus_main,
+        tables,
+        mut tables_main,
+    } = second;
+    let shared = parts_of(plan, 2, &bus, &tables);
+    let number = plan.bridge(2);
+    let two = crew_of(alloc, shared, number, &mut bus_main, &mut tables_main)?;
+    // From here on nothing has an allocator.
+    let ended = run_crews(rt, rt, plan, gate, &gate_of_two, met, one, two);
+    let second = OpenServices {
+        bus,
+        bus_main,
+        tables,
+        tables_main,
+    };
+    let BothEnded {
+        one: done,
+        two: done_two,
+        bridge,
+    } = ended;
+    Ok(SecondClosed {
+        done,
+        from: bridge.from,
+        two: close_side(plan, 2, second, done_two, bridge.to),
     })
 }
 
 // Runs the applications of both sides and the bridge to their ends. The bridge makes its first
 // calls before an application is started.
-fn run_crews<'r, R: Threads + Wait + Sync, G: Gate>(
-    rt: &R,
+fn run_crews<'a, 'b, 'g, 'r, R: Threads + Wait + Sync, G: Gate>(
+    rt: &'a R,
+    rt_of_two: &'b R,
     plan: &BridgePlan,
-    gate: &G,
+    gate: &'a G,
+    gate_of_two: &'b GateOfTwo<'g, G>,
     bus_main: &mut BusMain,
-    one: Crew<'_, 'r>,
-    two: Crew<'_, 'r>,
+    one: Crew<'a, 'r>,
+    two: Crew<'b, 'r>,
 ) -> BothEnded
     requires one { IsCrewOf plan.now 1 one }
     requires two { IsCrewOf plan.now 2 two }
@@ -147,7 +211,7 @@ fn run_crews<'r, R: Threads + Wait + Sync, G: Gate>(
         from: ports,
         to: two.ports,
     };
-    run_all(rt, gate, bridge, side, two.side)
+    run_all(rt, rt_of_two, gate, gate_of_two, bridge, side, two.side)
 }
 
 /// What the applications of a side share.

@@ -12,46 +12,51 @@ use fsw_base::Gate;
 use std::sync::Wait;
 use std::thread;
 use std::thread::{Scope, Threads};
-use thread_run::{AllStarted, Begun, Done, Ends, Lists, RunParts, begin_all, end_all, start_one};
+use thread_run::{Begun, Done, Ends, Lists, RunParts, Starts, begin_all, end_all, start_one};
 
 // All that runs at once, as the scope of its threads is given it: in one value, which the scope's
 // closure moves whole.
 #[derive(Drop)]
-struct Jobs<'e, 'r, R: Threads + Wait + Sync, G: Gate> {
+struct Jobs<'a, 'b, 'c, 'g, 'r, R: Threads + Wait + Sync, G: Gate> {
     // By what they wait, and what starts their threads.
-    rt: &'e R,
+    rt: &'a R,
+    // The same, for as long as side 2 lasts.
+    rt_of_two: &'b R,
     // What is called round the lines of side 1.
-    gate: &'e G,
+    gate: &'a G,
     // And of side 2.
-    gate_of_two: &'e GateOfTwo<'e, G>,
+    gate_of_two: &'b GateOfTwo<'g, G>,
     // The bridge.
-    bridge: BridgeJob<'e, 'r>,
+    bridge: BridgeJob<'c, 'r>,
     // Side 1.
-    one: ScriptSide<'e, 'r>,
+    one: ScriptSide<'a, 'r>,
     // Side 2.
-    two: ScriptSide<'e, 'r>,
+    two: ScriptSide<'b, 'r>,
 }
 
 /// Runs the applications of both sides and the bridge to their ends.
-pub(crate) fn run_all<'r, R: Threads + Wait + Sync, G: Gate>(
-    rt: &R,
-    gate: &G,
-    bridge: BridgeJob<'_, 'r>,
-    one: ScriptSide<'_, 'r>,
-    two: ScriptSide<'_, 'r>,
+pub(crate) fn run_all<'a, 'b, 'c, 'g, 'r, R: Threads + Wait + Sync, G: Gate>(
+    rt: &'a R,
+    rt_of_two: &'b R,
+    gate: &'a G,
+    gate_of_two: &'b GateOfTwo<'g, G>,
+    bridge: BridgeJob<'c, 'r>,
+    one: ScriptSide<'a, 'r>,
+    two: ScriptSide<'b, 'r>,
 ) -> BothEnded
     requires bridge { MayBridge bridge }
     requires one { MayBegin one }
     requires two { MayBegin two }
+    requires to { bridge.crossing.two ≡ two.shared }
     ensures one { IsDoneSide one.entry result.one }
     ensures two { IsDoneSide two.entry result.two }
     ensures bridge { IsThrough bridge.entry.crossing result.bridge }
 {
-    let gate_of_two = GateOfTwo { gate };
     let jobs = Jobs {
         rt,
+        rt_of_two,
         gate,
-        gate_of_two: &gate_of_two,
+        gate_of_two,
         bridge,
         one,
         two,
@@ -63,6 +68,7 @@ pub(crate) fn run_all<'r, R: Threads + Wait + Sync, G: Gate>(
             requires bridge { MayBridge jobs.bridge }
             requires one { MayBegin jobs.one }
             requires two { MayBegin jobs.two }
+            requires to { jobs.bridge.crossing.two ≡ jobs.two.shared }
             ensures one { IsDoneSide jobs.entry.one result.one }
             ensures two { IsDoneSide jobs.entry.two result.two }
             ensures bridge { IsThrough jobs.entry.bridge.crossing result.bridge }
@@ -91,35 +97,40 @@ pub(crate) struct DoneSide {
 }
 
 // The same, in a scope of threads: the bridge is started first, then side 1, then side 2.
-fn run_in<'s, 'x, 'e: 's, 'r: 's, R: Threads + Wait + Sync, G: Gate>(
+fn run_in<'s, 'x, 'a: 's, 'b: 's, 'c: 's, 'g: 's, 'r: 's, R: Threads + Wait + Sync, G: Gate>(
     scope: &'s Scope<'s, &'x ()>,
-    jobs: Jobs<'e, 'r, R, G>,
+    jobs: Jobs<'a, 'b, 'c, 'g, 'r, R, G>,
 ) -> BothEnded
     requires bridge { MayBridge jobs.bridge }
     requires one { MayBegin jobs.one }
     requires two { MayBegin jobs.two }
+    requires to { jobs.bridge.crossing.two ≡ jobs.two.shared }
     ensures one { IsDoneSide jobs.entry.one result.one }
     ensures two { IsDoneSide jobs.entry.two result.two }
     ensures bridge { IsThrough jobs.entry.bridge.crossing result.bridge }
 {
     let Jobs {
         rt,
+        rt_of_two,
         gate,
         gate_of_two,
         bridge,
         one,
         two,
     } = jobs;
+    let mut asked = Starts::none();
     let start = start_one(
+        &mut asked,
         scope,
         bridge.crossing,
         move || -> BridgeDone
             requires { MayBridge bridge }
-        { run_one(rt, bridge) },
+        { run_one(rt_of_two, bridge) },
     );
-    let one = begin_side(scope, rt, gate, one);
-    let two = begin_side(scope, rt, gate_of_two, two);
-    let bridge = start.begin(&two.all).end(rt, &two.all);
+    // The bridge's thread counts on either side.
+    let one = begin_side(scope, rt, gate, one, asked);
+    let two = begin_side(scope, rt_of_two, gate_of_two, two, asked);
+    let bridge = start.begin(&two.starts).end(rt, &two.starts);
     BothEnded {
         one: end_side(rt, one),
         two: end_side(rt, two),
@@ -138,18 +149,21 @@ pub(crate) struct BegunSide<'e, 'r> {
     pub(crate) dones: Vec<Done>,
     /// Room for the receipts of each.
     pub(crate) receipts: Vec<ReceiptList>,
-    /// None is left to start.
-    pub(crate) all: AllStarted,
+    /// How many threads were asked for, with the bridge's.
+    pub(crate) starts: Starts,
 }
 
-// Begins a side's applications, each on a thread of the scope.
+// Begins a side's applications, each on a thread of the scope, where the bridge's thread was asked
+// for.
 fn begin_side<'s, 'x, 'e: 's, 'r: 's, R: Threads + Wait + Sync, G: Gate>(
     scope: &'s Scope<'s, &'x ()>,
     rt: &'e R,
     gate: &'e G,
     side: ScriptSide<'e, 'r>,
+    asked: Starts,
 ) -> BegunSide<'e, 'r>
-    requires { MayBegin side }
+    requires side { MayBegin side }
+    requires asked { asked ≡ 1 }
     ensures begun { IsBegunSide result }
     ensures shared { result.shared ≡ side.entry.shared }
 {
@@ -160,13 +174,22 @@ fn begin_side<'s, 'x, 'e: 's, 'r: 's, R: Threads + Wait + Sync, G: Gate>(
         receipts,
     } = side;
     let Lists { mut begun, dones } = lists;
-    let all = begin_all(scope, rt, gate, shared, &mut works, &mut begun);
+    let mut starts = asked;
+    begin_all(
+        scope,
+        rt,
+        gate,
+        shared,
+        &mut works,
+        &mut starts,
+        &mut begun,
+    );
     BegunSide {
         shared,
         begun,
         dones,
         receipts,
-        all,
+        starts,
     }
 }
 
@@ -180,8 +203,8 @@ fn end_side<'e, 'r, R: Threads>(rt: &R, side: BegunSide<'e, 'r>) -> DoneSide
         mut begun,
         mut dones,
         receipts,
-        all,
+        starts,
     } = side;
-    end_all(rt, shared, &mut begun, &mut dones, &all);
+    end_all(rt, shared, &mut begun, &mut dones, &starts);
     DoneSide { dones, receipts }
 }

@@ -16,6 +16,7 @@ pub run_all-requires-clause-one : goal.run_all-requires-clause-one
 run_all-requires-clause-one g c =
     let begins = c.requires.one.begins in
     let same = c.begin_bridge-pipe.ensures.all in record {
+      beside = begins.beside;
       works = c.begin_bridge-pipe.ensures.works;
       all = same ∙ begins.all;
       room = record {
