@@ -49,7 +49,8 @@ pub record IsSame (old new : PortView) : Type 0 where
 
 -- the port's entries, and one call more that was so answered
 abbrev pub one_more : PortView → Call → BusAnswer → List Entry
-one_more port call answer = port.mine ++ record { app = port.app; call = call; answer = answer } ∷ []
+one_more port call answer =
+    port.mine ++ record { app = port.app; call = call; answer = answer } ∷ []
 
 -- The call on pipe p gave a message, which is now the pipe's last.
 pub record HasTaken (p : ℕ) (old new : PortView) (call : Call) : Type 0 where

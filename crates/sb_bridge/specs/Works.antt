@@ -37,7 +37,8 @@ AreInTime waits = All (λ e. ¬ (e.answer ≡ TimeOut)) waits
 
 -- What is known of the bridge's port of side 1 once it made its first calls: these, and behind them
 -- waits on its pipe. It has an entry left for each that may come.
-pub record HasBegun (crossing : Crossing) (from : PortView) (first waits : List Entry) : Type 0 where
+pub record HasBegun (crossing : Crossing) (from : PortView) (first waits : List Entry) :
+    Type 0 where
   pub bridges : IsBridges crossing.one from
   pub at : IsAt crossing.pipe from
   pub active : standing_behind from.mine ≡ Active
@@ -78,8 +79,8 @@ abbrev pub AreTooMany : Crossing → List (List ℕ) → Type 0
 AreTooMany crossing given =
     (crossing.most.entries ≤ length given) ⊎ (crossing.most.bytes < bytes_of given)
 
--- It goes no further: all that the pipe gave was sent, and the last wait timed out; or its pipe gave
--- too many messages.
+-- It goes no further: all that the pipe gave was sent, and the last wait timed out; or its pipe
+-- gave too many messages.
 pub record HasStopped (crossing : Crossing) (from to : PortView) : Type 0 where
   pub first : List Entry
   pub waits : List Entry

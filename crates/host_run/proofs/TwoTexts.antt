@@ -1,0 +1,27 @@
+-- One text behind another, each written in a call of its own.
+use Rattle.std.proofs.Common.{◌≡◌, ℕ, List, ◌++◌, Option, Result, Ok, Err, OnErr, ap, sym, ◌∙◌, append_assoc}
+use Rattle.text_page.specs.Pieces.{Grew, CutShort}
+use Rattle.text_page.proofs.PieceTexts.{grew_then}
+
+-- a front of the first text is one of both
+pub cut_first : (a b : Option (List ℕ)) (s t : List ℕ) → CutShort a b s → CutShort a b (s ++ t)
+cut_first a b s t cut = record {
+  sent = cut.sent;
+  left = cut.left ++ t;
+  whole = ap (λ l. l ++ t) cut.whole ∙ append_assoc cut.sent cut.left t;
+  bytes = cut.bytes;
+}
+
+-- the first text and a front of the second
+pub cut_second : (a b c : Option (List ℕ)) (s t : List ℕ) → Grew a b s → CutShort b c t → CutShort a c (s ++ t)
+cut_second a b c s t grew cut = record {
+  sent = s ++ cut.sent;
+  left = cut.left;
+  whole = ap (λ l. s ++ l) cut.whole ∙ sym (append_assoc s cut.sent cut.left);
+  bytes = grew_then a s cut.sent grew cut.bytes;
+}
+
+-- what holds anyway holds of a failure
+pub on_err_any : {T E P : Type 0} (r : Result T E) → P → OnErr r P
+on_err_any (Ok x) holds = tt
+on_err_any (Err e) holds = holds
