@@ -162,8 +162,7 @@ CFE_Status_t CFE_TBL_Register(CFE_TBL_Handle_t *TblHandlePtr, const char *Name, 
         return CFE_ES_ERR_RESOURCEID_NOT_VALID;
     uint32_t status =
         register_table(app, Name, Size, TblOptionFlags, TblValidationFuncPtr, TblHandlePtr);
-    fsw_leave();
-    return fsw_status(status, CFE_TBL_BAD_ARGUMENT);
+    return fsw_leave_with(status, CFE_TBL_BAD_ARGUMENT);
 }
 
 CFE_Status_t CFE_TBL_Share(CFE_TBL_Handle_t *TblHandlePtr, const char *TblName)
@@ -183,8 +182,7 @@ CFE_Status_t CFE_TBL_Share(CFE_TBL_Handle_t *TblHandlePtr, const char *TblName)
     }
     if (status == FSW_SUCCESS)
         *TblHandlePtr = add_handle(app, table, number);
-    fsw_leave();
-    return fsw_status(status, CFE_TBL_BAD_ARGUMENT);
+    return fsw_leave_with(status, CFE_TBL_BAD_ARGUMENT);
 }
 
 CFE_Status_t CFE_TBL_Unregister(CFE_TBL_Handle_t TblHandle)
@@ -196,8 +194,7 @@ CFE_Status_t CFE_TBL_Unregister(CFE_TBL_Handle_t TblHandle)
     uint32_t status = fsw_table_unregister(&fsw_layer.core, app->number, handle->number);
     if (status == FSW_SUCCESS)
         drop_handle(handle);
-    fsw_leave();
-    return fsw_status(status, CFE_TBL_BAD_ARGUMENT);
+    return fsw_leave_with(status, CFE_TBL_BAD_ARGUMENT);
 }
 
 /* ---- Files ---- */
@@ -397,8 +394,7 @@ CFE_Status_t CFE_TBL_Load(CFE_TBL_Handle_t TblHandle, CFE_TBL_SrcEnum_t SrcType,
             status = (uint32_t)CFE_TBL_ERR_ILLEGAL_SRC_TYPE;
         end_load(load.table);
     }
-    fsw_leave();
-    return fsw_status(status, CFE_TBL_BAD_ARGUMENT);
+    return fsw_leave_with(status, CFE_TBL_BAD_ARGUMENT);
 }
 
 /* ---- What fsw_stage_table staged ---- */
@@ -469,8 +465,7 @@ CFE_Status_t CFE_TBL_Validate(CFE_TBL_Handle_t TblHandle)
         load.table->pending = status == FSW_SUCCESS ? UPDATE_PENDING : NOTHING_PENDING;
         end_load(load.table);
     }
-    fsw_leave();
-    return fsw_status(status, CFE_TBL_BAD_ARGUMENT);
+    return fsw_leave_with(status, CFE_TBL_BAD_ARGUMENT);
 }
 
 /* What the table of a handle waits for, if the caller may ask. */
@@ -496,8 +491,7 @@ CFE_Status_t CFE_TBL_Update(CFE_TBL_Handle_t TblHandle)
     if (status == FSW_SUCCESS)
         status = pending == UPDATE_PENDING ? update(app, handle->table, handle->number)
                                            : FSW_TBL_INFO_NO_UPDATE_PENDING;
-    fsw_leave();
-    return fsw_status(status, CFE_TBL_BAD_ARGUMENT);
+    return fsw_leave_with(status, CFE_TBL_BAD_ARGUMENT);
 }
 
 CFE_Status_t CFE_TBL_GetStatus(CFE_TBL_Handle_t TblHandle)
@@ -550,8 +544,7 @@ CFE_Status_t CFE_TBL_ReleaseAddress(CFE_TBL_Handle_t TblHandle)
         return CFE_ES_ERR_RESOURCEID_NOT_VALID;
     uint32_t status =
         fsw_table_release_address(&fsw_layer.core, app->number, handle_at(TblHandle)->number);
-    fsw_leave();
-    return fsw_status(status, CFE_TBL_BAD_ARGUMENT);
+    return fsw_leave_with(status, CFE_TBL_BAD_ARGUMENT);
 }
 
 /* As in cFE, the first status that isn't success is the answer of the next two. */
