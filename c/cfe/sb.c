@@ -33,10 +33,8 @@ CFE_Status_t CFE_SB_CreatePipe(CFE_SB_PipeId_t *PipeIdPtr, uint16 Depth, const c
     if (!PipeIdPtr)
         return CFE_SB_BAD_ARGUMENT;
     *PipeIdPtr = CFE_SB_INVALID_PIPE;
-    if (!PipeName)
-        return CFE_SB_BAD_ARGUMENT;
-    struct app *app = fsw_enter();
-    if (!app)
+    const struct app *app;
+    if (!PipeName || !(app = fsw_enter()))
         return CFE_SB_BAD_ARGUMENT;
     uint32_t number = 0;
     uint32_t status =
@@ -114,15 +112,20 @@ void fsw_end_pipes(void)
 
 /* ---- Subscriptions ---- */
 
+/* An id of over 16 bits is as bad as 0. */
+static uint16_t core_id(CFE_SB_MsgId_t id)
+{
+    return id > UINT16_MAX ? 0 : (uint16_t)id;
+}
+
 static CFE_Status_t subscribe(CFE_SB_MsgId_t MsgId, CFE_SB_PipeId_t PipeId, uint16 limit,
                               uint32_t scope)
 {
     struct app *app = fsw_enter();
     if (!app)
         return CFE_SB_BAD_ARGUMENT;
-    /* An id of over 16 bits is as bad as 0. */
-    uint16_t id = MsgId > UINT16_MAX ? 0 : (uint16_t)MsgId;
-    uint32_t status = fsw_subscribe(&fsw_layer.core, app->number, id, PipeId, limit, scope);
+    uint32_t status =
+        fsw_subscribe(&fsw_layer.core, app->number, core_id(MsgId), PipeId, limit, scope);
     return fsw_leave_bus((struct fsw_asked){"Subscribe", CFE_SB_SUB_ARG_ERR_EID, MsgId}, status);
 }
 
@@ -148,8 +151,7 @@ CFE_Status_t CFE_SB_Unsubscribe(CFE_SB_MsgId_t MsgId, CFE_SB_PipeId_t PipeId)
     struct app *app = fsw_enter();
     if (!app)
         return CFE_SB_BAD_ARGUMENT;
-    uint16_t id = MsgId > UINT16_MAX ? 0 : (uint16_t)MsgId;
-    uint32_t status = fsw_unsubscribe(&fsw_layer.core, app->number, id, PipeId);
+    uint32_t status = fsw_unsubscribe(&fsw_layer.core, app->number, core_id(MsgId), PipeId);
     return fsw_leave_bus((struct fsw_asked){"Unsubscribe", CFE_SB_UNSUB_ARG_ERR_EID, MsgId}, status);
 }
 
@@ -251,11 +253,9 @@ static inline void follow(const struct fsw_sent *sent, bool is_asking)
 
 CFE_Status_t CFE_SB_TransmitMsg(const CFE_MSG_Message_t *MsgPtr, bool IncrementSequenceCount)
 {
+    const struct app *app;
     struct fsw_sent sent;
-    if (!MsgPtr)
-        return CFE_SB_BAD_ARGUMENT;
-    struct app *app = fsw_enter();
-    if (!app)
+    if (!MsgPtr || !(app = fsw_enter()))
         return CFE_SB_BAD_ARGUMENT;
     uint32_t status = fsw_transmit(&fsw_layer.core, app->number, MsgPtr, length_of(MsgPtr),
                                    is_counted(MsgPtr, IncrementSequenceCount), &sent);
@@ -328,14 +328,12 @@ FSW_SELDOM static CFE_Status_t receive_later(CFE_SB_Buffer_t **BufPtr, CFE_SB_Pi
 
 CFE_Status_t CFE_SB_ReceiveBuffer(CFE_SB_Buffer_t **BufPtr, CFE_SB_PipeId_t PipeId, int32 TimeOut)
 {
+    const struct app *app;
     struct fsw_message message;
     if (!BufPtr)
         return CFE_SB_BAD_ARGUMENT;
     *BufPtr = NULL;
-    if (TimeOut < CFE_SB_PEND_FOREVER)
-        return CFE_SB_BAD_ARGUMENT;
-    struct app *app = fsw_enter();
-    if (!app)
+    if (TimeOut < CFE_SB_PEND_FOREVER || !(app = fsw_enter()))
         return CFE_SB_BAD_ARGUMENT;
     uint32_t status = fsw_receive(&fsw_layer.core, app->number, PipeId, &message);
     if (status != FSW_SUCCESS)
@@ -347,6 +345,9 @@ CFE_Status_t CFE_SB_ReceiveBuffer(CFE_SB_Buffer_t **BufPtr, CFE_SB_PipeId_t Pipe
 }
 
 /* ---- Buffers ---- */
+
+/* What the core is given for what is no buffer: it refuses and counts that, and leaves it empty. */
+static struct fsw_buffer no_buffer;
 
 /* The application's buffer whose first byte this is; with null, its first empty place; or null. */
 static struct fsw_buffer *buffer_at(const struct app *app, const void *at)
@@ -375,19 +376,15 @@ CFE_SB_Buffer_t *CFE_SB_AllocateMessageBuffer(size_t MsgSize)
 
 CFE_Status_t CFE_SB_TransmitBuffer(CFE_SB_Buffer_t *BufPtr, bool IncrementSequenceCount)
 {
-    struct fsw_buffer none = {NULL, 0, 0, 0};
+    const struct app *app;
     struct fsw_sent sent;
-    if (!BufPtr)
+    if (!BufPtr || !(app = fsw_enter()))
         return CFE_SB_BAD_ARGUMENT;
-    struct app *app = fsw_enter();
-    if (!app)
-        return CFE_SB_BAD_ARGUMENT;
-    /* The core counts a refusal, also of what is no buffer. */
     struct fsw_buffer *buffer = buffer_at(app, BufPtr);
     bool counts = buffer && is_counted(&BufPtr->Msg, IncrementSequenceCount);
     bool is_asking = buffer && is_request(&BufPtr->Msg);
-    uint32_t status =
-        fsw_transmit_buffer(&fsw_layer.core, app->number, buffer ? buffer : &none, counts, &sent);
+    uint32_t status = fsw_transmit_buffer(&fsw_layer.core, app->number,
+                                          buffer ? buffer : &no_buffer, counts, &sent);
     if (status == FSW_SUCCESS)
         follow(&sent, is_asking);
     /* What was sent is the bus's. */
@@ -396,14 +393,12 @@ CFE_Status_t CFE_SB_TransmitBuffer(CFE_SB_Buffer_t *BufPtr, bool IncrementSequen
 
 CFE_Status_t CFE_SB_ReleaseMessageBuffer(CFE_SB_Buffer_t *BufPtr)
 {
-    struct fsw_buffer none = {NULL, 0, 0, 0};
-    if (!BufPtr)
-        return CFE_SB_BAD_ARGUMENT;
-    struct app *app = fsw_enter();
-    if (!app)
+    const struct app *app;
+    if (!BufPtr || !(app = fsw_enter()))
         return CFE_SB_BAD_ARGUMENT;
     struct fsw_buffer *buffer = buffer_at(app, BufPtr);
-    uint32_t status = fsw_release_buffer(&fsw_layer.core, app->number, buffer ? buffer : &none);
+    uint32_t status =
+        fsw_release_buffer(&fsw_layer.core, app->number, buffer ? buffer : &no_buffer);
     return fsw_leave_with(status, CFE_SB_BAD_ARGUMENT);
 }
 

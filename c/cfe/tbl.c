@@ -558,17 +558,19 @@ CFE_Status_t CFE_TBL_ReleaseAddress(CFE_TBL_Handle_t TblHandle)
 }
 
 /* As in cFE, the first status that isn't success is the answer of the next two. */
+static CFE_Status_t first_of(CFE_Status_t first, CFE_Status_t next)
+{
+    return first == CFE_SUCCESS ? next : first;
+}
+
 CFE_Status_t CFE_TBL_GetAddresses(void **TblPtrs[], uint16 NumTables,
                                   const CFE_TBL_Handle_t TblHandles[])
 {
     CFE_Status_t first = CFE_SUCCESS;
     if (!TblPtrs || !TblHandles)
         return CFE_TBL_BAD_ARGUMENT;
-    for (uint16 i = 0; i < NumTables; i++) {
-        CFE_Status_t status = CFE_TBL_GetAddress(TblPtrs[i], TblHandles[i]);
-        if (first == CFE_SUCCESS)
-            first = status;
-    }
+    for (uint16 i = 0; i < NumTables; i++)
+        first = first_of(first, CFE_TBL_GetAddress(TblPtrs[i], TblHandles[i]));
     return first;
 }
 
@@ -577,11 +579,8 @@ CFE_Status_t CFE_TBL_ReleaseAddresses(uint16 NumTables, const CFE_TBL_Handle_t T
     CFE_Status_t first = CFE_SUCCESS;
     if (!TblHandles)
         return CFE_TBL_BAD_ARGUMENT;
-    for (uint16 i = 0; i < NumTables; i++) {
-        CFE_Status_t status = CFE_TBL_ReleaseAddress(TblHandles[i]);
-        if (first == CFE_SUCCESS)
-            first = status;
-    }
+    for (uint16 i = 0; i < NumTables; i++)
+        first = first_of(first, CFE_TBL_ReleaseAddress(TblHandles[i]));
     return first;
 }
 
