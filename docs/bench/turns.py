@@ -1,11 +1,12 @@
 #!/usr/bin/env python3
-"""Times rounds by ports: of one application alone, and of two at once, each on a thread of its own.
+"""Times rounds by ports: of one application alone, and of two and of four at once, each on a thread of its own.
 
     python3 docs/bench/turns.py [--times N] [NAME=PROGRAM ..]
 
 It prints microseconds a round, by the clock and of processors: of plain_bus, which is compiled here, of the built cost_port, and
 of further programs that take the same words, such as cost_port over another lock. They run in turn. Of N runs each (9, where it
-isn't given) the least counts, that of a longer run less that of a shorter one.
+isn't given) the least counts, that of a longer run less that of a shorter one. A program that doesn't know so many applications
+has no figure there.
 """
 import argparse
 import os
@@ -20,7 +21,7 @@ COST_PORT = HERE.parent.parent / "crates/cost_port/out/cost_port"
 
 # The pipes of each word, and the rounds of its shorter and of its longer run.
 WORDS = {"port1": (1, 10000, 210000), "port16": (16, 1000, 21000)}
-APPS = (1, 2)
+APPS = (1, 2, 4)
 
 
 def taken(program, word, rounds, apps):

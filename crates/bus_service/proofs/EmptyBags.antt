@@ -18,7 +18,7 @@ use Rattle.bus_store.specs.Bag.{Shape, shape_of, last_view}
 use Rattle.bus_store.specs.Words.{desc_of, size_for}
 use Rattle.sb_calls.specs.Bags.{HasBag, loans_of, descs_of}
 use Rattle.sb_calls.specs.Core.{Core, state_of, apps_of}
-use Rattle.bus_service.specs.Histories.{own_entries}
+use Rattle.bus_words.specs.Runs.{own_entries}
 
 -- Pipes of others. --
 

@@ -1,14 +1,11 @@
 mod ActiveStandings
-mod ApplicationCounts
 mod EmptyBags
-mod Histories
+mod Laws
 mod LentBuffers
-mod Mains
-mod Meetings
+mod Looks
+mod Openings
 pub mod OthersCalls
 mod PermitTests
 mod Refusals
 pub mod Threads
-mod TurnFinds
-mod TurnsAfterSleep
 mod Visits

@@ -1,8 +1,11 @@
 -- What others call meanwhile leaves an application as it stands, with what it may still add.
-use Rattle.std.proofs.Common.{◌≡◌, ℕ, ◌≤◌, [], IsTrue, ap, sym, ◌∙◌, subst, arith, List}
+use Rattle.std.proofs.Common.{◌≡◌, ◌≢◌, ℕ, ◌≤◌, ◌∷◌, ◌++◌, [], length, IsTrue, refl, ap, sym, ◌∙◌, subst, arith, List}
+use Rattle.std.specs.List.{All}
+use Rattle.lend_block.specs.declared.note.Note.{Note}
 use Rattle.journal_store.specs.declared.allowance.Allowance.{Allowance}
 use Rattle.journal_store.specs.Budgets.{allowance_of, allowances}
 use Rattle.bus_words.specs.declared.history.Call.{Call}
+use Rattle.bus_words.specs.declared.history.Entry.{Entry}
 use Rattle.bus_words.specs.Bus.{State, Standing, opening, standing_of}
 use Rattle.bus_words.specs.Entries.{call_bytes}
 use Rattle.bus_words.specs.Log.{left_of}
@@ -10,7 +13,29 @@ use Rattle.bus_words.specs.Machine.{LegalFrom, may_call}
 use Rattle.bus_words.proofs.Journals.{length-left_of}
 use Rattle.bus_words.proofs.OwnEntries.{callers_from_one, legal_back, left_alone, left_further, standing_alone, state_further}
 use Rattle.sb_calls.specs.Bags.{CalledByOthers}
-use Rattle.sb_calls.specs.Core.{Core, MayCall, apps_of, state_of}
+use Rattle.sb_calls.specs.Core.{Core, MayCall, IsLegalCore, IsNoted, apps_of, state_of}
+use Rattle.sb_calls.specs.Notes.{AreDue}
+
+-- Entries behind a core's history. --
+
+-- where the notes of a history are due, so are those of its two parts
+due-parts : (es more : List Entry) (notes others : List Note) → length notes ≡ length es → AreDue (es ++ more) (notes ++ others) → AreDue es notes × AreDue more others
+due-parts [] more [] others even due = (tt, due)
+due-parts [] more (n ∷ notes) others even due = absurd (omega (arith, even))
+due-parts (e ∷ es) more [] others even due = absurd (omega (arith, even))
+due-parts (e ∷ es) more (n ∷ notes) others even due = let rest = due-parts es more notes others (omega (arith, even)) due.1 in ((due.0, rest.0), rest.1)
+
+-- the core with these entries behind its own, and a note beside each
+abbrev with_more : Core → List Entry → List Note → Core
+with_more core more fresh =
+    record { limits = core.limits; log = record { budgets = core.log.budgets; entries = core.log.entries ++ more }; notes = core.notes ++ fresh }
+
+-- where they are of others, only others called meanwhile
+pub others_more : (core : Core) (more : List Entry) (fresh : List Note) (app : ℕ) → length core.notes ≡ length core.log.entries → IsLegalCore (with_more core more fresh) → IsNoted (with_more core more fresh) →
+    All (λ (e : Entry). e.app ≢ app) more → CalledByOthers core (with_more core more fresh) app
+others_more core more fresh app even legal noted others =
+    let dues = due-parts core.log.entries more core.notes fresh even noted in
+    record { entries = more; notes = fresh; by_others = others; grown = refl; legal = legal; before = dues.0; noted = dues.1 }
 
 module _ (old new : Core) (app : ℕ) (first : 1 ≤ app) (others : CalledByOthers old new app) where
   abbrev s : State

@@ -11,8 +11,9 @@ use Rattle.bus_words.specs.Log.{left_of}
 use Rattle.bus_words.specs.Machine.{may_call}
 use Rattle.sb_plain.specs.Core.{is_within}
 use Rattle.sb_calls.specs.Core.{Core, MayCall, state_of}
-use Rattle.bus_service.specs.Inside.{Tells, lets}
+use Rattle.bus_service.specs.Inside.{lets}
 use Rattle.bus_service.specs.Ports.{is_look}
+use Rattle.bus_service.specs.Words.{Tells}
 use Rattle.bus_service.specs.declared.permits.Permits.{Permits}
 
 -- What calls there are. --
@@ -88,6 +89,20 @@ at_most m n is = grind (arith, nat_tests)
 pub tested : (m n : ℕ) → m ≤ n → leb m n ≡ true
 tested m n within = grind (arith, nat_tests)
 
+-- who may ask for the figures, may make its last call
+pub also_last : (core : Core) (app : ℕ) → MayCall core app Figures → MayCall core app End
+also_last core app may = record {
+  known = may.known;
+  standing = active_ends (standing_of (state_of core) app) may.standing;
+  room = record { known = may.room.known; one_entry = may.room.one_entry; its_bytes = omega arith };
+  within = refl;
+}
+  where
+    active_ends : (standing : Standing) → IsTrue (may_call standing Figures) → IsTrue (may_call standing End)
+    active_ends Active may = refl
+    active_ends (Waiting pipe) may = absurd (true≢false (sym may))
+    active_ends Ended may = absurd (true≢false (sym may))
+
 -- Permits. --
 
 module _ (core : Core) (app : ℕ) (permits : Permits) (tells : Tells core app permits) where
@@ -96,15 +111,15 @@ module _ (core : Core) (app : ℕ) (permits : Permits) (tells : Tells core app p
 
   -- Calls. --
 
-  module _ (left : Allowance) (is : left ≡ allowance_of (left_of core.log) app) (call : Call) where
+  module _ (call : Call) where
     abbrev tests : Bool
-    tests = lets permits call && leb (call_bytes call) left.bytes && is_within call
+    tests = lets permits call && leb (call_bytes call) permits.left.bytes && is_within call
 
     pub permitted : tests ≡ true → MayCall core app call
     permitted holds = by (kind call)
       where
-        three : (lets permits call ≡ true) × (leb (call_bytes call) left.bytes ≡ true) × (is_within call ≡ true)
-        three = parts (lets permits call) (leb (call_bytes call) left.bytes) (is_within call) holds
+        three : (lets permits call ≡ true) × (leb (call_bytes call) permits.left.bytes ≡ true) × (is_within call ≡ true)
+        three = parts (lets permits call) (leb (call_bytes call) permits.left.bytes) (is_within call) holds
 
         by : Kind call → MayCall core app call
         by (ALook look never) = absurd (true≢false (sym three.0 ∙ never permits))
@@ -117,16 +132,16 @@ module _ (core : Core) (app : ℕ) (permits : Permits) (tells : Tells core app p
               room = record {
                 known = may.room.known;
                 one_entry = may.room.one_entry;
-                its_bytes = subst (λ (l : Allowance). call_bytes call ≤ l.bytes) is (at_most (call_bytes call) left.bytes three.1);
+                its_bytes = subst (λ (l : Allowance). call_bytes call ≤ l.bytes) tells.left (at_most (call_bytes call) permits.left.bytes three.1);
               };
               within = three.2;
             }
 
     pub needed : is_look call ≡ false → MayCall core app call → tests ≡ true
     needed no_look may =
-        all (lets permits call) (leb (call_bytes call) left.bytes) (is_within call)
+        all (lets permits call) (leb (call_bytes call) permits.left.bytes) (is_within call)
         (by (kind call))
-        (tested (call_bytes call) left.bytes (subst (λ (l : Allowance). call_bytes call ≤ l.bytes) (sym is) may.room.its_bytes))
+        (tested (call_bytes call) permits.left.bytes (subst (λ (l : Allowance). call_bytes call ≤ l.bytes) (sym tells.left) may.room.its_bytes))
         may.within
       where
         by : Kind call → lets permits call ≡ true

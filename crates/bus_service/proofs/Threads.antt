@@ -1,10 +1,10 @@
--- The core in its box may go to any thread, so that any thread may use the lock over it; and an application's port may go to its thread.
+-- The core may go to any thread, so that any thread may use the service of it; and an application's port may go to its thread.
 use denote.Builtin.{u8}
 use denote.Ref.{NamedLft}
 use denote.Slice.{MutSlice}
 use denote.Param.Send.{IsSend, IsSync, owning_send, view_send, view_sync, sendable}
 use Rattle.std.proofs.Crossing as heap
-use Rattle.turn_lock.proofs.lock.TurnLock.TheSendSync as lock
+use Rattle.core_port.proofs.service.Service.TheSendSync as service
 use Rattle.lend_block.specs.contracts.name.LoanName as name
 use Rattle.lend_block.specs.contracts.note.Note as note
 use Rattle.lend_block.specs.contracts.view.View as view
@@ -14,7 +14,6 @@ use Rattle.bus_words.proofs.journal.BusJournal.TheSendSync as journal
 use Rattle.sb_plain.proofs.plain.PlainBus.TheSendSync as plain
 use Rattle.sb_calls.specs.contracts.noted.NotedJournal as noted
 use Rattle.sb_calls.specs.contracts.bus_core.BusCore as core
-use Rattle.bus_service.specs.contracts.boxed.BoxedCore as boxed
 use Rattle.bus_service.specs.contracts.bus.Bus as bus
 use Rattle.bus_service.specs.contracts.ports.PortOf as port
 use Rattle.bus_service.specs.contracts.unsent.ViewMessageView.TheImpl as shown
@@ -39,17 +38,11 @@ core_fields r = let p = plain.the_send r in let n = noted_send in search sendabl
 core_send : (r : NamedLft) → IsSend (core.the_row r)
 core_send r = view_send (core.TheInside.the_row r) _ _ _ _ (core_fields r)
 
-boxed_fields : (r : NamedLft) → IsSend (boxed.TheInside.the_row r)
-boxed_fields r = let c = heap.Box-send (core.the_row r) (core_send r) in search sendable depth 20
-
-boxed_send : (r : NamedLft) → IsSend (boxed.the_row r)
-boxed_send r = view_send (boxed.TheInside.the_row r) _ _ _ _ (boxed_fields r)
-
-lock_sync : (r : NamedLft) → IsSync (bus.TheInside.the_row r)
-lock_sync r = let b = boxed_send r in search (sendable, lock.the_sync) depth 20
+service_sync : (r : NamedLft) → IsSync (bus.TheInside.the_row r)
+service_sync r = let k = core_send r in search (sendable, service.the_sync) depth 20
 
 pub bus_sync : (r : NamedLft) → IsSync (bus.the_row r)
-bus_sync r = view_sync (bus.TheInside.the_row r) _ _ _ _ (lock_sync r)
+bus_sync r = view_sync (bus.TheInside.the_row r) _ _ _ _ (service_sync r)
 
 bytes_send : (r : NamedLft) → IsSend (MutSlice r.mir r.lft u8)
 bytes_send r = search sendable

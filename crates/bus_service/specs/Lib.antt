@@ -1,5 +1,4 @@
-pub mod Histories
 pub mod Inside
 pub mod Lending
 pub mod Ports
-pub mod Turns
+pub mod Words

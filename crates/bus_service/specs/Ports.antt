@@ -1,6 +1,6 @@
 -- What is seen of a port, of one that is finished and of the main part, and what a port's calls
 -- answer.
-use Rattle.std.specs.Prelude.{◌≡◌, ℕ, ◌+◌, ◌-◌, ◌<◌, ◌≤◌, ◌⊎◌, Bool, true, false, List, [], ◌∷◌, ◌++◌, length, replicate, slice_index_or, Result, IfOk, OnErr}
+use Rattle.std.specs.Prelude.{◌≡◌, ℕ, ◌+◌, ◌-◌, ◌<◌, ◌≤◌, Bool, true, false, List, [], ◌∷◌, ◌++◌, length, replicate, slice_index_or, Result, IfOk, OnErr}
 use Rattle.atomic_table.specs.Seated.{TableId}
 use Rattle.fsw_base.specs.declared.config.Budget.{Budget}
 use Rattle.fsw_base.specs.declared.statuses.SbStatus.{SbStatus}
@@ -18,10 +18,10 @@ use Rattle.sb_calls.specs.Answers.{waited}
 use Rattle.sb_plain.specs.Bags.{KeepsBuffers}
 use Rattle.sb_calls.specs.Core.{Core, Does, Looks, StandAlone}
 use Rattle.sb_calls.specs.Bags.{HasBag, CalledByOthers, AreOneLoan}
-use mathlib.Core.List.{IsPrefix}
+use Rattle.core_port.specs.Ports as ports
+use Rattle.bus_service.specs.Words.{bus}
 
--- A port: the lock that it is of, its application, the core with the history that it has seen, the
--- entries that it made, and what its application holds.
+-- A port, as core_port shows one, with what its application holds.
 pub record PortView : Type 0 where
   pub lock : TableId
   pub app : ℕ
@@ -30,19 +30,12 @@ pub record PortView : Type 0 where
   pub bag : Holding LentBytes
 
 -- A finished port, without its bag.
-pub record DoneView : Type 0 where
-  pub lock : TableId
-  pub app : ℕ
-  pub seen : Core
-  pub mine : List Entry
+abbrev pub DoneView : Type 0
+DoneView = ports.PortView Core Entry
 
--- The main part: the lock that it is of, the core with the history that it has seen, the
--- applications whose ports were made, and those whose ports were joined, each with its entries.
-pub record MainView : Type 0 where
-  pub lock : TableId
-  pub seen : Core
-  pub apps : List ℕ
-  pub ended : List (ℕ × List Entry)
+-- The main part, as core_port shows it.
+abbrev pub MainView : Type 0
+MainView = ports.MainView Core Entry
 
 -- Own entries. --
 
@@ -118,21 +111,14 @@ pub record AnswersLook (old new : PortView) (pipe : ℕ) (told : Pended) : Type 
 
 -- Joins and the close. --
 
--- the history of the one begins that of the other, and so do the notes
-pub record Begins (one other : Core) : Type 0 where
-  pub entries : IsPrefix one.log.entries other.log.entries
-  pub notes : IsPrefix one.notes other.notes
+-- core_port's, for the bus
+abbrev pub Begins : Core → Core → Type 0
+Begins = ports.Begins bus
 
--- this core, with the history of that one
+-- core_port's, for the bus
 abbrev pub with_history : Core → Core → Core
-with_history core other =
-    record {
-      limits = core.limits;
-      log = record { budgets = core.log.budgets; entries = other.log.entries };
-      notes = other.notes;
-    }
+with_history = ports.with_history bus
 
--- one of the two histories begins the other, and the longer one is kept
+-- core_port's, for the bus
 abbrev pub KeepsLongerOf : Core → Core → Core → Type 0
-KeepsLongerOf one other kept =
-    (Begins one other × (kept ≡ with_history one other)) ⊎ (Begins other one × (kept ≡ one))
+KeepsLongerOf = ports.KeepsLongerOf bus

@@ -6,35 +6,32 @@ ghost use Rattle.sb_calls.specs.Core.{IsLegalCore, StandAlone};
 ghost use Rattle.bus_words.specs.Runs.{own_entries};
 ghost use Rattle.bus_service.specs.Ports.{Begins, KeepsLongerOf, buffers_for};
 
-use crate::boxed::{BoxedCore, NotedCall, Opening};
+use crate::kind::BusKind;
 use crate::permits::Permits;
 use crate::ports::{BusDone, BusPort};
 use buf_desc::Held;
 use bus_words::Allowance;
+use core_port::{Main, Service};
 use fsw_base::{AppNo, Budget, Config};
 use sb_calls::BusCore;
 use std::alloc::{AllocError, Global};
 use std::marker::Model;
-use turn_lock::{MOST_SEATS, Seat, TurnLock};
 
 /// A software bus that threads share. The threads' ports take turns at one core.
 ///
 /// Contracts see which lock it is.
 #[derive(Drop)]
 pub struct Bus<'r> {
-    // The lock, from which a seat can be split off for each application that there may be.
-    pub(crate) lock: TurnLock<BoxedCore<'r>>,
+    // The core behind its lock.
+    pub(crate) service: Service<BusKind, BusCore<'r>>,
 }
 
 impl<'r> Model for Bus<'r> {
-    ghost use Rattle.std.specs.Prelude.{◌≡◌};
     ghost use Rattle.atomic_table.specs.Seated.{TableId};
 
     ghost Value = { TableId };
 
-    ghost view = { λ t. t.lock.name };
-
-    ghost invariant = { λ t. t.lock.seats ≡ 16 };
+    ghost view = { λ b. b.service };
 }
 
 /// The part of the service that makes ports and closes it. It stays with whoever opened the
@@ -42,26 +39,7 @@ impl<'r> Model for Bus<'r> {
 ///
 /// Contracts see which lock it is of, the core with the history that it has seen, the applications
 /// whose ports were made, and of those joined their entries.
-#[derive(Drop)]
-pub struct BusMain {
-    // The lock's main seat.
-    pub(crate) seat: Seat<Opening, NotedCall>,
-    // The budgets of the applications 1, 2, 3 and so on.
-    budgets: Vec<Budget>,
-    // How many pipes there may be.
-    pipes: u32,
-}
-
-impl Model for BusMain {
-    ghost use Rattle.bus_service.specs.Ports.{MainView};
-    ghost use Rattle.bus_service.specs.Inside.{main_in, IsMainPart};
-
-    ghost Value = { MainView };
-
-    ghost view = { λ m. main_in m.seat };
-
-    ghost invariant = { λ m. IsMainPart m.seat m.budgets.items m.pipes };
-}
+pub type BusMain = Main<BusKind>;
 
 impl<'r> Bus<'r> {
     /// A bus on which no call was made, as [`BusCore::new`] makes it, and its main part.
@@ -89,18 +67,9 @@ impl<'r> Bus<'r> {
               ended = [];
             }) }
     {
-        let given = budgets.to_vec(alloc)?;
         let core = BusCore::new(alloc, cfg, budgets, region)?;
-        let boxed = BoxedCore::new(alloc, core)?;
-        let (lock, seat) = TurnLock::new(alloc, boxed, MOST_SEATS)?;
-        Ok((
-            Bus { lock },
-            BusMain {
-                seat,
-                budgets: given,
-                pipes: cfg.pipes,
-            },
-        ))
+        let (service, main) = Service::new(alloc, core, budgets, cfg.pipes)?;
+        Ok((Bus { service }, main))
     }
 
     /// The port of an application that has none yet. It has seen what the main part has, has made
@@ -135,25 +104,22 @@ impl<'r> Bus<'r> {
             (λ _. main.new ≡ record main.old { apps = main.old.apps ++ app ∷ [] }) }
         ensures refused { IfErr result (λ _. main.new ≡ main.old) }
     {
-        let budget = main.budgets[(app.get() - 1) as usize];
-        let bag = Held::new(alloc, main.pipes, budget.buffers)?;
+        let budget = main.budget(app);
+        let bag = Held::new(alloc, main.view_room(), budget.buffers)?;
         let left = Allowance {
             entries: budget.entries,
             bytes: budget.bytes,
         };
         let some = 1 <= budget.entries;
         let permits = Permits {
+            left,
             any: some,
             last: some,
         };
-        let seat = self.lock.split(&mut main.seat, app);
-        Ok(BusPort {
-            seat,
-            app,
-            left,
-            permits,
-            bag,
-        })
+        main.recall();
+        main.recall_apps();
+        let port = self.service.port(main, app, permits);
+        Ok(BusPort { port, bag })
     }
 
     /// Takes a finished port into the main part, which keeps its entries, and the longer of the
@@ -166,8 +132,7 @@ impl<'r> Bus<'r> {
         ensures apps { main.new.apps ≡ main.old.apps }
         ensures ended { main.new.ended ≡ main.old.ended ++ (done.app, done.mine) ∷ [] }
     {
-        let BusDone { seat } = done;
-        self.lock.join(&mut main.seat, seat);
+        self.service.join(main, done);
     }
 
     /// Ends the service, whose ports have all been joined, and answers the core. Its history is one
@@ -185,14 +150,7 @@ impl<'r> Bus<'r> {
         ensures others { (app : ℕ) → ¬ (Contains main.apps app) →
             own_entries app result.log.entries ≡ [] }
     {
-        let Bus { lock } = self;
-        let BusMain {
-            seat,
-            budgets: _,
-            pipes: _,
-        } = main;
-        let boxed = lock.close(seat);
-        boxed.recall();
-        boxed.into_core()
+        let Bus { service } = self;
+        service.close(main)
     }
 }

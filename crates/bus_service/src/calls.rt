@@ -8,6 +8,7 @@ ghost use Rattle.sb_calls.specs.Bags.{HasBag};
 ghost use Rattle.sb_calls.specs.Core.{MayCall, Does};
 ghost use Rattle.bus_service.specs.Ports.{FindsRoom};
 
+use crate::kind::BusKind;
 use buf_desc::Held;
 use fsw_base::AppNo;
 use sb_calls::BusCore;
@@ -39,4 +40,31 @@ pub(crate) trait PortCall {
         ensures does { Does core.old core.new app (call self bag.old) (answer result) }
         ensures bag { HasBag core.new app bag.new }
         ensures left { leaves self bag.old bag.new result };
+}
+
+/// A call, as a port makes it.
+pub(crate) struct MadeCall<P> {
+    /// The call.
+    pub(crate) call: P,
+}
+
+impl<'r, P: PortCall> core_port::PortCall<BusKind, BusCore<'r>> for MadeCall<P> {
+    type Told = P::Told;
+
+    ghost call = { λ m bag. P.call m.call bag };
+
+    ghost answer = { P.answer };
+
+    ghost leaves = { λ m old new told. P.leaves m.call old new told };
+
+    fn make<L: Ledger>(
+        self,
+        core: &mut BusCore<'r>,
+        app: AppNo,
+        bag: &mut Held<'r>,
+        steps: &mut Steps<L>,
+    ) -> P::Told {
+        let MadeCall { call } = self;
+        call.make(core, app, bag, steps)
+    }
 }

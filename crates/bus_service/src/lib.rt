@@ -76,12 +76,12 @@
 //! takes it away, and rings once the turn was passed on. So no waking is lost.
 #![tactic(auto)]
 
-mod boxed;
 mod buffers;
 mod bus;
 mod calls;
 mod counters;
 mod events;
+mod kind;
 mod leaving;
 mod meeting;
 mod permits;
@@ -91,10 +91,10 @@ mod ports;
 mod receiving;
 mod sending;
 mod subscribing;
-mod turns;
 mod unsent;
 
-pub use boxed::{NotedCall, Opening};
 pub use bus::{Bus, BusMain};
+pub use kind::{BusKind, SeenBus};
+pub use permits::Permits;
 pub use ports::{BusDone, BusPort, PortOf};
 pub use unsent::{MessageView, Writer};

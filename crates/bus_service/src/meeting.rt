@@ -1,5 +1,5 @@
 //! What the main part learns of a port while no port was joined.
-ghost use Rattle.std.specs.Prelude.{◌≡◌, ℕ, [], Contains};
+ghost use Rattle.std.specs.Prelude.{◌≡◌, []};
 ghost use mathlib.Core.List.{IsPrefix};
 ghost use Rattle.bus_words.specs.Runs.{own_entries};
 ghost use Rattle.bus_service.specs.Ports.{KeepsLongerOf};
@@ -25,18 +25,6 @@ impl<'r> Bus<'r> {
             port.old.mine }
         ensures port { port.new ≡ port.old }
     {
-        self.lock.sleep(rt, &mut port.seat);
-        self.lock.meet(&mut main.seat, &mut port.seat);
-    }
-}
-
-impl BusMain {
-    /// What the main part has seen has no entries but those of applications whose ports were made.
-    /// Does nothing.
-    pub fn recall_apps(&self)
-        ensures { (app : ℕ) → ¬ (Contains self.now.apps app) →
-            own_entries app self.now.seen.log.entries ≡ [] }
-    {
-        let _ = &self.seat;
+        self.service.meet(rt, main, &mut port.port);
     }
 }

@@ -11,9 +11,12 @@ use crate::ports::BusPort;
 use bus_words::{Allowance, BusCall};
 use fsw_base::{MAX_MESSAGE_BYTES, MAX_NAME_BYTES, MAX_TEXT_BYTES};
 
-/// Which calls an application may make that bring no bytes.
+/// What an application may still add to the journal, and which calls it may make that bring no
+/// bytes.
 #[derive(Clone, Copy)]
-pub(crate) struct Permits {
+pub struct Permits {
+    /// What it may still add.
+    pub(crate) left: Allowance,
     /// Any, but for looks and its last one.
     pub(crate) any: bool,
     /// Its last one.
@@ -33,7 +36,7 @@ impl BusPort<'_> {
         ensures otherwise { is_look (call_of call.now) ≡ false →
             MayCall self.now.seen self.now.app (call_of call.now) → IsTrue result }
     {
-        is_permitted(self.permits, self.left, call)
+        is_permitted(*self.port.permits(), call)
     }
 
     /// Whether the application may look now: it waits on a pipe, and has an entry left. Told
@@ -42,7 +45,7 @@ impl BusPort<'_> {
         ensures { IsTrue result ↔ MayCall self.now.seen self.now.app
             (Look (waited_on (standing_of (state_of self.now.seen) self.now.app))) }
     {
-        is_waiting(self.permits)
+        is_waiting(*self.port.permits())
     }
 }
 
@@ -53,16 +56,17 @@ fn is_waiting(permits: Permits) -> bool
     !permits.any && permits.last
 }
 
-// Whether an application may make the call that has so much left, and these permits.
-fn is_permitted(permits: Permits, left: Allowance, call: &BusCall<'_>) -> bool
+// Whether an application with these permits may make the call.
+fn is_permitted(permits: Permits, call: &BusCall<'_>) -> bool
     ensures { result ≡
-        (lets permits (call_of call.now) && nat_le (call_bytes (call_of call.now)) left.bytes &&
+        (lets permits (call_of call.now) &&
+        nat_le (call_bytes (call_of call.now)) permits.left.bytes &&
         is_within (call_of call.now)) }
 {
     let open = is_open(permits, call);
     let bytes = call.byte_count();
     let short = is_within(call);
-    open && bytes <= left.bytes as usize && short
+    open && bytes <= permits.left.bytes as usize && short
 }
 
 // Whether these permits let the application make the call.

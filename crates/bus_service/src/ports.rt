@@ -10,21 +10,17 @@ ghost use Rattle.sb_calls.specs.Views.{bytes_seen};
 ghost use Rattle.bus_words.specs.Runs.{own_entries};
 ghost use Rattle.bus_service.specs.Ports.{Answers, FindsRoom, left_by};
 
-use crate::boxed::{NotedCall, Opening};
 use crate::bus::Bus;
-use crate::calls::PortCall;
-use crate::permits::Permits;
-use crate::turns::{begin, finish};
+use crate::calls::{MadeCall, PortCall};
+use crate::kind::BusKind;
 use crate::unsent::MessageView;
 use buf_desc::{Bag, Memory};
-use bus_words::Allowance;
+use core_port::Port;
 use fsw_base::AppNo;
 use lend_block::View;
 use sb_calls::bags_stay;
-use std::marker::{Brand, Model};
+use std::marker::Model;
 use std::sync::Wait;
-use step_count::Blank;
-use turn_lock::Seat;
 
 /// One application's calls of the software bus, from a thread of its own. Each call waits for the
 /// application's turn at the core.
@@ -36,14 +32,8 @@ use turn_lock::Seat;
 /// [`BusPort`] is the one that is used.
 #[derive(Drop)]
 pub struct PortOf<S: Memory + Drop, V: MessageView + Drop> {
-    // The seat with which it takes turns.
-    pub(crate) seat: Seat<Opening, NotedCall>,
-    // Its application.
-    pub(crate) app: AppNo,
-    // What its application may still add to the journal.
-    pub(crate) left: Allowance,
-    // Which calls it may make that bring no bytes.
-    pub(crate) permits: Permits,
+    // Its part at the lock.
+    pub(crate) port: Port<BusKind>,
     // What its application holds.
     pub(crate) bag: Bag<S, V>,
 }
@@ -53,42 +43,27 @@ pub type BusPort<'r> = PortOf<&'r mut [u8], View<'r>>;
 
 impl<S: Memory + Drop, V: MessageView + Drop> Model for PortOf<S, V> {
     ghost use Rattle.bus_service.specs.Ports.{PortView};
-    ghost use Rattle.bus_service.specs.Inside.{port_in, seen_in, IsPort, Tells};
+    ghost use Rattle.bus_service.specs.Inside.{with_bag};
+    ghost use Rattle.sb_calls.specs.Bags.{HasBag};
 
     ghost Value = { PortView };
 
-    ghost view = { λ p. port_in p.seat p.app (V.held p.bag) };
+    ghost view = { λ p. with_bag p.port (V.held p.bag) };
 
-    ghost invariant = { λ p. IsPort p.seat p.app p.left (V.held p.bag) ×
-        Tells (seen_in p.seat) p.app p.permits };
+    ghost invariant = { λ p. HasBag p.port.seen p.port.app (V.held p.bag) };
 }
 
 /// What is left of a port whose application has ended. It names no lifetime.
 ///
 /// Contracts see what they see of the port, but for the bag.
-#[derive(Drop)]
-pub struct BusDone {
-    // The seat.
-    pub(crate) seat: Seat<Opening, NotedCall>,
-}
-
-impl Model for BusDone {
-    ghost use Rattle.bus_service.specs.Ports.{DoneView};
-    ghost use Rattle.bus_service.specs.Inside.{done_in, IsDone};
-
-    ghost Value = { DoneView };
-
-    ghost view = { λ d. done_in d.seat };
-
-    ghost invariant = { λ d. IsDone d.seat };
-}
+pub type BusDone = Port<BusKind>;
 
 impl<'r> BusPort<'r> {
     /// Its application.
     pub fn app(&self) -> AppNo
         ensures { result ≡ self.now.app }
     {
-        self.app
+        self.port.app()
     }
 
     /// How many entries the application may still add to the journal, told from its own entries
@@ -99,7 +74,8 @@ impl<'r> BusPort<'r> {
         ensures own { result ≡
             (allowance_of (left_by self.now.seen self.now.mine) self.now.app).entries }
     {
-        self.left.entries
+        self.port.recall();
+        self.port.permits().left.entries
     }
 
     /// How many bytes of names, messages and buffers the application may still add to the journal,
@@ -110,7 +86,8 @@ impl<'r> BusPort<'r> {
         ensures own { result ≡
             (allowance_of (left_by self.now.seen self.now.mine) self.now.app).bytes }
     {
-        self.left.bytes
+        self.port.recall();
+        self.port.permits().left.bytes
     }
 
     /// How many buffers still fit into the application's bag.
@@ -140,7 +117,7 @@ impl<'r> BusPort<'r> {
         ensures bag { HasBag self.now.seen self.now.app self.now.bag }
         ensures mine { own_entries self.now.app self.now.seen.log.entries ≡ self.now.mine }
     {
-        self.bag.buffer_room();
+        self.port.recall();
     }
 
     /// What is left of a port whose application has ended. Its bag, which is empty, is let go.
@@ -154,14 +131,8 @@ impl<'r> BusPort<'r> {
               mine = self.entry.mine;
             } }
     {
-        let BusPort {
-            seat,
-            app: _,
-            left: _,
-            permits: _,
-            bag: _,
-        } = self;
-        BusDone { seat }
+        let BusPort { port, bag: _ } = self;
+        port
     }
 
     /// Makes one call of the core at the application's turn, which it waits for.
@@ -172,15 +143,7 @@ impl<'r> BusPort<'r> {
         ensures answers { Answers self.old self.new (C.call call self.old.bag) (C.answer result) }
         ensures left { C.leaves call self.old.bag self.new.bag result }
     {
-        // While an application waits, its only call but looks is its end. It doesn't sleep before.
-        bus.lock.stay_awake(&mut self.seat);
-        let mut turn = begin(bus, rt, &mut self.seat);
-        let told = turn
-            .value_mut()
-            .make::<C, Brand>(call, self.app, &mut self.bag, Blank::new(1));
-        self.left = turn.value().left(self.app);
-        self.permits = turn.value().permits(self.app);
-        finish(bus, &mut self.seat, turn);
-        told
+        self.port
+            .visit(&bus.service, rt, &mut self.bag, MadeCall { call })
     }
 }

@@ -11,8 +11,8 @@ ghost use Rattle.bus_words.specs.declared.history.Call.TheVariants.{Look};
 
 use crate::bus::Bus;
 use crate::calls::PortCall;
+use crate::kind::LookAgain;
 use crate::ports::BusPort;
-use crate::turns::{begin, finish, pause};
 use buf_desc::Held;
 use fsw_base::{AppNo, SbStatus};
 use sb_calls::{BusCore, Pended};
@@ -122,17 +122,8 @@ impl<'r> BusPort<'r> {
         ensures still { result ≡ Pended.Pending → self.new.bag ≡ self.old.bag }
         ensures buffers { self.new.bag ≡ record self.old.bag { views = self.new.bag.views } }
     {
-        bus.lock.sleep(rt, &mut self.seat);
-        let mut turn = begin(bus, rt, &mut self.seat);
-        let told = turn.value_mut().look(self.app, &mut self.bag);
-        if told.is_pending() {
-            self.permits = turn.value().permits(self.app);
-            pause(bus, &mut self.seat, turn);
-            return told;
-        }
-        self.left = turn.value().left(self.app);
-        self.permits = turn.value().permits(self.app);
-        finish(bus, &mut self.seat, turn);
-        told
+        self.port.recall();
+        self.port
+            .look::<BusCore<'r>, LookAgain, R>(&bus.service, rt, &mut self.bag)
     }
 }

@@ -9,7 +9,7 @@ use Rattle.journal_store.proofs.Charges.{length-charged}
 use Rattle.tbl_words.specs.declared.history.Entry.{Entry}
 use Rattle.tbl_words.specs.Entries.{call_bytes}
 use Rattle.tbl_words.specs.Log.{charge_of}
-use Rattle.tbl_service.specs.Histories.{own_entries}
+use Rattle.tbl_service.specs.Ports.{own_entries}
 
 -- a charge of one application leaves what another may add
 pub charged_other : (left : List Allowance) (app other bytes : ℕ) → 1 ≤ app → 1 ≤ other → eqb app other ≡ false → allowance_of (charged left app bytes) other ≡ allowance_of left other

@@ -14,7 +14,7 @@ use Rattle.tbl_plain.specs.Core.{Lent, view_of}
 use Rattle.tbl_load.specs.Bags.{HasBag, loans_of}
 use Rattle.tbl_load.specs.Core.{Core, state_of, apps_of}
 use Rattle.tbl_load.proofs.OwnHandles.{owned, step_alone}
-use Rattle.tbl_service.specs.Histories.{own_entries}
+use Rattle.tbl_service.specs.Ports.{own_entries}
 
 -- No handle. --
 

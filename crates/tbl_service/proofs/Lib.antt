@@ -1,11 +1,9 @@
 mod Allowances
-mod ApplicationCounts
 mod EmptyBags
-mod Histories
-mod Mains
+mod Laws
+mod Openings
 mod OthersCalls
 mod PermitTests
 mod Standings
 pub mod Threads
-mod TurnFinds
 mod Visits

@@ -1,8 +1,9 @@
 -- What others call meanwhile leaves an application as it stands, with what it may still add.
-use Rattle.std.proofs.Common.{◌≡◌, ◌≢◌, ℕ, ◌≤◌, not, Bool, true, false, true≢false, ne_eqb, List, [], ◌∷◌, ◌++◌, map, IsTrue, refl, ap, sym, ◌∙◌, subst, arith}
+use Rattle.std.proofs.Common.{◌≡◌, ◌≢◌, ℕ, ◌≤◌, not, Bool, true, false, true≢false, ne_eqb, List, [], ◌∷◌, ◌++◌, length, map, IsTrue, refl, ap, sym, ◌∙◌, subst, arith}
 use Rattle.std.specs.List.{All}
 use Rattle.std.proofs.lemmas.List.Elements.{All-head, All-tail}
 use Rattle.fsw_base.specs.Limits.{Limits}
+use Rattle.lend_block.specs.declared.note.Note.{Note}
 use Rattle.journal_store.specs.declared.allowance.Allowance.{Allowance}
 use Rattle.journal_store.specs.Budgets.{allowance_of, allowances, charged, left_from}
 use Rattle.tbl_words.specs.declared.history.Call.{Call}
@@ -12,8 +13,9 @@ use Rattle.tbl_words.specs.Log.{charge_of, left_of}
 use Rattle.tbl_words.specs.Tables.{State, opening, has_ended}
 use Rattle.tbl_words.specs.Machine.{LegalFrom, state_from, step}
 use Rattle.tbl_load.specs.Bags.{CalledByOthers}
-use Rattle.tbl_load.specs.Core.{Core, MayCall, apps_of, state_of}
+use Rattle.tbl_load.specs.Core.{Core, MayCall, IsLegalCore, IsNoted, apps_of, state_of}
 use Rattle.tbl_load.proofs.Journals.{length-left_of}
+use Rattle.tbl_load.specs.Notes.{AreDue}
 use Rattle.tbl_service.proofs.Allowances.{charged_other}
 use Rattle.tbl_service.proofs.Standings.{callers_from_one, stays_apart, opened}
 
@@ -56,6 +58,27 @@ pub open_alone : (core : Core) (app : ℕ) → 1 ≤ app → app ≤ apps_of cor
     has_ended (state_of core) app ≡ false
 open_alone core app first known callers others =
     still_open core.limits (opening core.limits (apps_of core)) app core.log.entries first callers others (opened core.limits (apps_of core) app first known)
+
+-- Entries behind a core's history. --
+
+-- where the notes of a history are due, so are those of its two parts
+due-parts : (es more : List Entry) (notes others : List Note) → length notes ≡ length es → AreDue (es ++ more) (notes ++ others) → AreDue es notes × AreDue more others
+due-parts [] more [] others even due = (tt, due)
+due-parts [] more (n ∷ notes) others even due = absurd (omega (arith, even))
+due-parts (e ∷ es) more [] others even due = absurd (omega (arith, even))
+due-parts (e ∷ es) more (n ∷ notes) others even due = let rest = due-parts es more notes others (omega (arith, even)) due.1 in ((due.0, rest.0), rest.1)
+
+-- the core with these entries behind its own, and a note beside each
+abbrev with_more : Core → List Entry → List Note → Core
+with_more core more fresh =
+    record { limits = core.limits; log = record { budgets = core.log.budgets; entries = core.log.entries ++ more }; notes = core.notes ++ fresh }
+
+-- where they are of others, only others called meanwhile
+pub others_more : (core : Core) (more : List Entry) (fresh : List Note) (app : ℕ) → length core.notes ≡ length core.log.entries → IsLegalCore (with_more core more fresh) → IsNoted (with_more core more fresh) →
+    All (λ (e : Entry). e.app ≢ app) more → CalledByOthers core (with_more core more fresh) app
+others_more core more fresh app even legal noted others =
+    let dues = due-parts core.log.entries more core.notes fresh even noted in
+    record { entries = more; notes = fresh; by_others = others; grown = refl; legal = legal; before = dues.0; noted = dues.1 }
 
 -- Calls of others. --
 

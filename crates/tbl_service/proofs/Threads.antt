@@ -1,8 +1,8 @@
--- The core in its box may go to any thread, so that any thread may use the lock over it.
+-- The core may go to any thread, so that any thread may use the service of it.
 use denote.Ref.{NamedLft}
 use denote.Param.Send.{IsSend, IsSync, owning_send, view_send, view_sync, sendable}
 use Rattle.std.proofs.Crossing as heap
-use Rattle.turn_lock.proofs.lock.TurnLock.TheSendSync as lock
+use Rattle.core_port.proofs.service.Service.TheSendSync as service
 use Rattle.lend_block.specs.contracts.name.LoanName as name
 use Rattle.lend_block.specs.contracts.note.Note as note
 use Rattle.tbl_words.proofs.journal.TblJournal.TheSendSync as journal
@@ -10,7 +10,6 @@ use Rattle.tbl_words.proofs.uses.TblUse.TheSendSync as uses
 use Rattle.tbl_plain.proofs.plain.PlainTables.TheSendSync as plain
 use Rattle.tbl_load.specs.contracts.noted.NotedJournal as noted
 use Rattle.tbl_load.specs.contracts.tables.TblCore as core
-use Rattle.tbl_service.specs.contracts.boxed.BoxedCore as boxed
 use Rattle.tbl_service.specs.contracts.tables.Tables as tables
 
 -- a loan's name owns nothing
@@ -32,14 +31,8 @@ core_fields r = let p = plain.the_send r in let n = noted_send in search sendabl
 core_send : (r : NamedLft) → IsSend (core.the_row r)
 core_send r = view_send (core.TheInside.the_row r) _ _ _ _ (core_fields r)
 
-boxed_fields : (r : NamedLft) → IsSend (boxed.TheInside.the_row r)
-boxed_fields r = let c = heap.Box-send (core.the_row r) (core_send r) in search sendable depth 20
-
-boxed_send : (r : NamedLft) → IsSend (boxed.the_row r)
-boxed_send r = view_send (boxed.TheInside.the_row r) _ _ _ _ (boxed_fields r)
-
-lock_sync : (r : NamedLft) → IsSync (tables.TheInside.the_row r)
-lock_sync r = let b = boxed_send r in search (sendable, lock.the_sync) depth 20
+service_sync : (r : NamedLft) → IsSync (tables.TheInside.the_row r)
+service_sync r = let k = core_send r in search (sendable, service.the_sync) depth 20
 
 pub tables_sync : (r : NamedLft) → IsSync (tables.the_row r)
-tables_sync r = view_sync (tables.TheInside.the_row r) _ _ _ _ (lock_sync r)
+tables_sync r = view_sync (tables.TheInside.the_row r) _ _ _ _ (service_sync r)

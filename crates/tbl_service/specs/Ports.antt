@@ -1,6 +1,6 @@
 -- What is seen of a port, of one that is finished and of the main part, and what a port's calls
 -- answer.
-use Rattle.std.specs.Prelude.{◌≡◌, ℕ, ◌==◌, ◌⊎◌, false, List, [], ◌∷◌, ◌++◌}
+use Rattle.std.specs.Prelude.{◌≡◌, ℕ, ◌==◌, false, List, [], ◌∷◌, ◌++◌, filter}
 use Rattle.atomic_table.specs.Seated.{TableId}
 use Rattle.journal_store.specs.declared.allowance.Allowance.{Allowance}
 use Rattle.tbl_words.specs.declared.calls.TblAnswer.{TblAnswer}
@@ -10,10 +10,10 @@ use Rattle.tbl_words.specs.Log.{left_of}
 use Rattle.tbl_blocks.specs.Held.{HeldViews, held_at}
 use Rattle.tbl_load.specs.Core.{Core, Does}
 use Rattle.tbl_load.specs.Bags.{HasBag, CalledByOthers, AreOneLoan}
-use mathlib.Core.List.{IsPrefix}
+use Rattle.core_port.specs.Ports as ports
+use Rattle.tbl_service.specs.Words.{tables}
 
--- A port: the lock that it is of, its application, the core with the history that it has seen, the
--- entries that it made, and what its application holds.
+-- A port, as core_port shows one, with what its application holds.
 pub record PortView : Type 0 where
   pub lock : TableId
   pub app : ℕ
@@ -22,21 +22,18 @@ pub record PortView : Type 0 where
   pub bag : HeldViews
 
 -- A finished port, without its bag.
-pub record DoneView : Type 0 where
-  pub lock : TableId
-  pub app : ℕ
-  pub seen : Core
-  pub mine : List Entry
+abbrev pub DoneView : Type 0
+DoneView = ports.PortView Core Entry
 
--- The main part: the lock that it is of, the core with the history that it has seen, the
--- applications whose ports were made, and those whose ports were joined, each with its entries.
-pub record MainView : Type 0 where
-  pub lock : TableId
-  pub seen : Core
-  pub apps : List ℕ
-  pub ended : List (ℕ × List Entry)
+-- The main part, as core_port shows it.
+abbrev pub MainView : Type 0
+MainView = ports.MainView Core Entry
 
 -- Own entries. --
+
+-- one application's entries, in order
+abbrev pub own_entries : ℕ → List Entry → List Entry
+own_entries app entries = filter (λ e. e.app == app) entries
 
 -- what the budgets leave behind these entries alone
 abbrev pub left_by : Core → List Entry → List Allowance
@@ -64,21 +61,10 @@ KeepsOthers handle old new =
 
 -- Joins and the close. --
 
--- the history of the one begins that of the other, and so do the notes
-pub record Begins (one other : Core) : Type 0 where
-  pub entries : IsPrefix one.log.entries other.log.entries
-  pub notes : IsPrefix one.notes other.notes
+-- core_port's, for the tables
+abbrev pub Begins : Core → Core → Type 0
+Begins = ports.Begins tables
 
--- this core, with the history of that one
-abbrev pub with_history : Core → Core → Core
-with_history core other =
-    record {
-      limits = core.limits;
-      log = record { budgets = core.log.budgets; entries = other.log.entries };
-      notes = other.notes;
-    }
-
--- one of the two histories begins the other, and the longer one is kept
+-- core_port's, for the tables
 abbrev pub KeepsLongerOf : Core → Core → Core → Type 0
-KeepsLongerOf one other kept =
-    (Begins one other × (kept ≡ with_history one other)) ⊎ (Begins other one × (kept ≡ one))
+KeepsLongerOf = ports.KeepsLongerOf tables

@@ -6,6 +6,7 @@ ghost use Rattle.tbl_blocks.specs.Held.{HeldViews};
 ghost use Rattle.tbl_load.specs.Bags.{HasBag};
 ghost use Rattle.tbl_load.specs.Core.{MayCall, Does};
 
+use crate::kind::TblKind;
 use fsw_base::AppNo;
 use step_count::{Ledger, Steps};
 use tbl_load::{HeldTables, TblCore};
@@ -35,4 +36,31 @@ pub(crate) trait PortCall {
         ensures does { Does core.old core.new app (call self) (answer result) }
         ensures bag { HasBag core.new app bag.new }
         ensures left { leaves self bag.old bag.new result };
+}
+
+/// A call, as a port makes it.
+pub(crate) struct MadeCall<P> {
+    /// The call.
+    pub(crate) call: P,
+}
+
+impl<'r, P: PortCall> core_port::PortCall<TblKind, TblCore<'r>> for MadeCall<P> {
+    type Told = P::Told;
+
+    ghost call = { λ m bag. P.call m.call };
+
+    ghost answer = { P.answer };
+
+    ghost leaves = { λ m old new told. P.leaves m.call old new told };
+
+    fn make<L: Ledger>(
+        self,
+        core: &mut TblCore<'r>,
+        app: AppNo,
+        bag: &mut HeldTables<'r>,
+        steps: &mut Steps<L>,
+    ) -> P::Told {
+        let MadeCall { call } = self;
+        call.make(core, app, bag, steps)
+    }
 }

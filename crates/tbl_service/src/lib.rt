@@ -48,17 +48,17 @@
 //! fairness, order in time between ports that never met, and that a port goes to another thread.
 #![tactic(auto)]
 
-mod boxed;
 mod calls;
 mod holding;
+mod kind;
 mod leaving;
 mod loading;
 mod permits;
 mod ports;
 mod registering;
 mod tables;
-mod turns;
 
-pub use boxed::{NotedCall, Opening};
+pub use kind::{SeenTables, TblKind};
+pub use permits::Permits;
 pub use ports::{TblDone, TblPort};
 pub use tables::{Tables, TblMain};

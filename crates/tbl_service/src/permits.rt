@@ -8,6 +8,16 @@ use crate::ports::TblPort;
 use fsw_base::MAX_TABLE_BYTES;
 use tbl_words::{Allowance, TblCall};
 
+/// What an application may still add to the journal, and whether it may make its last call, as any
+/// other that brings no bytes.
+#[derive(Clone, Copy)]
+pub struct Permits {
+    /// What it may still add.
+    pub(crate) left: Allowance,
+    /// Whether it may make its last call.
+    pub(crate) may_end: bool,
+}
+
 impl TblPort<'_> {
     /// Whether the application may make this call now, which is the condition of the call: it
     /// hasn't ended, it has an entry and the call's bytes left, and what is loaded has 1 to 65536
@@ -15,20 +25,19 @@ impl TblPort<'_> {
     pub fn may_make(&self, call: &TblCall<'_>) -> bool
         ensures { IsTrue result ↔ MayCall self.now.seen self.now.app (call_of call.now) }
     {
-        is_permitted(self.may_end, self.left, call)
+        is_permitted(*self.port.permits(), call)
     }
 }
 
-// Whether an application may make the call that has so much left, and that may make its last call
-// or may not.
-fn is_permitted(may_end: bool, left: Allowance, call: &TblCall<'_>) -> bool
+// Whether an application with these permits may make the call.
+fn is_permitted(permits: Permits, call: &TblCall<'_>) -> bool
     ensures { result ≡
-        (may_end && nat_le (call_bytes (call_of call.now)) left.bytes &&
+        (permits.may_end && nat_le (call_bytes (call_of call.now)) permits.left.bytes &&
         is_within (call_of call.now)) }
 {
     let bytes = call.byte_count();
     let within = is_within(call);
-    may_end && bytes <= left.bytes as usize && within
+    permits.may_end && bytes <= permits.left.bytes as usize && within
 }
 
 // Whether the range of a load is one; calls of other kinds have none.

@@ -6,20 +6,16 @@ ghost use Rattle.tbl_words.specs.Log.{left_of};
 ghost use Rattle.tbl_words.specs.Tables.{has_ended};
 ghost use Rattle.tbl_load.specs.Bags.{HasBag, bytes_seen, held_bytes};
 ghost use Rattle.tbl_load.specs.Core.{MayCall, state_of};
-ghost use Rattle.tbl_service.specs.Histories.{own_entries};
-ghost use Rattle.tbl_service.specs.Ports.{Answers, left_by};
+ghost use Rattle.tbl_service.specs.Ports.{Answers, left_by, own_entries};
 
-use crate::boxed::{NotedCall, Opening};
-use crate::calls::PortCall;
+use crate::calls::{MadeCall, PortCall};
+use crate::kind::TblKind;
 use crate::tables::Tables;
-use crate::turns::{begin, finish};
+use core_port::Port;
 use fsw_base::AppNo;
-use std::marker::{Brand, Model};
+use std::marker::Model;
 use std::sync::Wait;
-use step_count::Blank;
 use tbl_load::{HeldTables, bags_stay};
-use tbl_words::Allowance;
-use turn_lock::Seat;
 
 /// One application's calls of Table Services, from a thread of its own. Each call waits for the
 /// application's turn at the core.
@@ -28,55 +24,35 @@ use turn_lock::Seat;
 /// the entries that it made, and what its application holds.
 #[derive(Drop)]
 pub struct TblPort<'r> {
-    // The seat with which it takes turns.
-    pub(crate) seat: Seat<Opening, NotedCall>,
-    // Its application.
-    pub(crate) app: AppNo,
-    // What its application may still add to the journal.
-    pub(crate) left: Allowance,
-    // Whether it may make its last call, as any other that brings no bytes.
-    pub(crate) may_end: bool,
+    // Its part at the lock.
+    pub(crate) port: Port<TblKind>,
     // What its application holds.
     pub(crate) bag: HeldTables<'r>,
 }
 
 impl<'r> Model for TblPort<'r> {
     ghost use Rattle.tbl_service.specs.Ports.{PortView};
-    ghost use Rattle.tbl_service.specs.Inside.{port_in, IsPort, TellsOpen};
+    ghost use Rattle.tbl_service.specs.Inside.{with_bag};
+    ghost use Rattle.tbl_load.specs.Bags.{HasBag};
 
     ghost Value = { PortView };
 
-    ghost view = { λ p. port_in p.seat p.app p.bag };
+    ghost view = { λ p. with_bag p.port p.bag };
 
-    ghost invariant = { λ p. IsPort p.seat p.app p.left p.bag × TellsOpen p.seat p.app p.may_end };
+    ghost invariant = { λ p. HasBag p.port.seen p.port.app p.bag };
 }
 
 /// What is left of a port whose application has ended. It names no lifetime.
 ///
 /// Contracts see what they see of the port, but for the bag.
-#[derive(Drop)]
-pub struct TblDone {
-    // The seat.
-    pub(crate) seat: Seat<Opening, NotedCall>,
-}
-
-impl Model for TblDone {
-    ghost use Rattle.tbl_service.specs.Ports.{DoneView};
-    ghost use Rattle.tbl_service.specs.Inside.{done_in, IsDone};
-
-    ghost Value = { DoneView };
-
-    ghost view = { λ d. done_in d.seat };
-
-    ghost invariant = { λ d. IsDone d.seat };
-}
+pub type TblDone = Port<TblKind>;
 
 impl<'r> TblPort<'r> {
     /// Its application.
     pub fn app(&self) -> AppNo
         ensures { result ≡ self.now.app }
     {
-        self.app
+        self.port.app()
     }
 
     /// How many entries the application may still add to the journal, told from its own entries
@@ -87,7 +63,8 @@ impl<'r> TblPort<'r> {
         ensures own { result ≡
             (allowance_of (left_by self.now.seen self.now.mine) self.now.app).entries }
     {
-        self.left.entries
+        self.port.recall();
+        self.port.permits().left.entries
     }
 
     /// How many bytes of names and loads the application may still add to the journal, told from
@@ -98,7 +75,8 @@ impl<'r> TblPort<'r> {
         ensures own { result ≡
             (allowance_of (left_by self.now.seen self.now.mine) self.now.app).bytes }
     {
-        self.left.bytes
+        self.port.recall();
+        self.port.permits().left.bytes
     }
 
     /// The bytes of the version that a handle holds, whatever was loaded since; None exactly where
@@ -121,7 +99,7 @@ impl<'r> TblPort<'r> {
         ensures bag { HasBag self.now.seen self.now.app self.now.bag }
         ensures mine { own_entries self.now.app self.now.seen.log.entries ≡ self.now.mine }
     {
-        self.bag.view_of(0);
+        self.port.recall();
     }
 
     /// What is left of a port whose application has ended. Its bag, which is empty, is let go.
@@ -135,14 +113,8 @@ impl<'r> TblPort<'r> {
               mine = self.entry.mine;
             } }
     {
-        let TblPort {
-            seat,
-            app: _,
-            left: _,
-            may_end: _,
-            bag: _,
-        } = self;
-        TblDone { seat }
+        let TblPort { port, bag: _ } = self;
+        port
     }
 
     /// Makes one call of the core at the application's turn, which it waits for.
@@ -157,13 +129,7 @@ impl<'r> TblPort<'r> {
         ensures answers { Answers self.old self.new (C.call call) (C.answer result) }
         ensures left { C.leaves call self.old.bag self.new.bag result }
     {
-        let mut turn = begin(tables, rt, &mut self.seat);
-        let told = turn
-            .value_mut()
-            .make::<C, Brand>(call, self.app, &mut self.bag, Blank::new(1));
-        self.left = turn.value().left(self.app);
-        self.may_end = turn.value().is_open(self.app);
-        finish(tables, &mut self.seat, turn);
-        told
+        self.port
+            .visit(&tables.service, rt, &mut self.bag, MadeCall { call })
     }
 }

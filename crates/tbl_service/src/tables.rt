@@ -3,36 +3,33 @@ ghost use Rattle.std.specs.Prelude.{◌≡◌, ℕ, ◌≤◌, ◌*◌, ◌++◌
 ghost use Rattle.fsw_base.specs.Limits.{limits_of};
 ghost use Rattle.journal_store.specs.Budgets.{AreBudgets};
 ghost use Rattle.tbl_load.specs.Core.{IsLegalCore};
-ghost use Rattle.tbl_service.specs.Histories.{own_entries};
-ghost use Rattle.tbl_service.specs.Ports.{Begins, KeepsLongerOf};
+ghost use Rattle.tbl_service.specs.Ports.{Begins, KeepsLongerOf, own_entries};
 
-use crate::boxed::{BoxedCore, NotedCall, Opening};
+use crate::kind::TblKind;
+use crate::permits::Permits;
 use crate::ports::{TblDone, TblPort};
+use core_port::{Main, Service};
 use fsw_base::{AppNo, Budget, Config};
 use std::alloc::{AllocError, Global};
 use std::marker::Model;
 use tbl_load::{HeldTables, TblCore};
 use tbl_words::Allowance;
-use turn_lock::{MOST_SEATS, Seat, TurnLock};
 
 /// Table Services that threads share. The threads' ports take turns at one core.
 ///
 /// Contracts see which lock it is.
 #[derive(Drop)]
 pub struct Tables<'r> {
-    // The lock, from which a seat can be split off for each application that there may be.
-    pub(crate) lock: TurnLock<BoxedCore<'r>>,
+    // The core behind its lock.
+    pub(crate) service: Service<TblKind, TblCore<'r>>,
 }
 
 impl<'r> Model for Tables<'r> {
-    ghost use Rattle.std.specs.Prelude.{◌≡◌};
     ghost use Rattle.atomic_table.specs.Seated.{TableId};
 
     ghost Value = { TableId };
 
-    ghost view = { λ t. t.lock.name };
-
-    ghost invariant = { λ t. t.lock.seats ≡ 16 };
+    ghost view = { λ t. t.service };
 }
 
 /// The part of the service that makes ports and closes it. It stays with whoever opened the
@@ -40,26 +37,7 @@ impl<'r> Model for Tables<'r> {
 ///
 /// Contracts see which lock it is of, the core with the history that it has seen, the applications
 /// whose ports were made, and of those joined their entries.
-#[derive(Drop)]
-pub struct TblMain {
-    // The lock's main seat.
-    seat: Seat<Opening, NotedCall>,
-    // The budgets of the applications 1, 2, 3 and so on.
-    budgets: Vec<Budget>,
-    // How many handles there may be.
-    handles: u32,
-}
-
-impl Model for TblMain {
-    ghost use Rattle.tbl_service.specs.Ports.{MainView};
-    ghost use Rattle.tbl_service.specs.Inside.{main_in, IsMainPart};
-
-    ghost Value = { MainView };
-
-    ghost view = { λ m. main_in m.seat };
-
-    ghost invariant = { λ m. IsMainPart m.seat m.budgets.items m.handles };
-}
+pub type TblMain = Main<TblKind>;
 
 impl<'r> Tables<'r> {
     /// Table Services on which no call was made, as [`TblCore::new`] makes them, and their main
@@ -90,18 +68,9 @@ impl<'r> Tables<'r> {
               ended = [];
             }) }
     {
-        let given = budgets.to_vec(alloc)?;
         let core = TblCore::new(alloc, cfg, budgets, region, work)?;
-        let boxed = BoxedCore::new(alloc, core)?;
-        let (lock, seat) = TurnLock::new(alloc, boxed, MOST_SEATS)?;
-        Ok((
-            Tables { lock },
-            TblMain {
-                seat,
-                budgets: given,
-                handles: cfg.handles,
-            },
-        ))
+        let (service, main) = Service::new(alloc, core, budgets, cfg.handles)?;
+        Ok((Tables { service }, main))
     }
 
     /// The port of an application that has none yet. It has seen what the main part has, has made
@@ -131,20 +100,20 @@ impl<'r> Tables<'r> {
             (λ _. main.new ≡ record main.old { apps = main.old.apps ++ app ∷ [] }) }
         ensures refused { IfErr result (λ _. main.new ≡ main.old) }
     {
-        let bag = HeldTables::new(alloc, main.handles)?;
-        let budget = main.budgets[(app.get() - 1) as usize];
+        let bag = HeldTables::new(alloc, main.view_room())?;
+        let budget = main.budget(app);
         let left = Allowance {
             entries: budget.entries,
             bytes: budget.bytes,
         };
-        let seat = self.lock.split(&mut main.seat, app);
-        Ok(TblPort {
-            seat,
-            app,
+        let permits = Permits {
             left,
             may_end: 1 <= budget.entries,
-            bag,
-        })
+        };
+        main.recall();
+        main.recall_apps();
+        let port = self.service.port(main, app, permits);
+        Ok(TblPort { port, bag })
     }
 
     /// Takes a finished port into the main part, which keeps its entries, and the longer of the
@@ -157,8 +126,7 @@ impl<'r> Tables<'r> {
         ensures apps { main.new.apps ≡ main.old.apps }
         ensures ended { main.new.ended ≡ main.old.ended ++ (done.app, done.mine) ∷ [] }
     {
-        let TblDone { seat } = done;
-        self.lock.join(&mut main.seat, seat);
+        self.service.join(main, done);
     }
 
     /// Ends the service, whose ports have all been joined, and answers the core. Its history is one
@@ -175,14 +143,7 @@ impl<'r> Tables<'r> {
         ensures others { (app : ℕ) → ¬ (Contains main.apps app) →
             own_entries app result.log.entries ≡ [] }
     {
-        let Tables { lock } = self;
-        let TblMain {
-            seat,
-            budgets: _,
-            handles: _,
-        } = main;
-        let boxed = lock.close(seat);
-        boxed.recall();
-        boxed.into_core()
+        let Tables { service } = self;
+        service.close(main)
     }
 }

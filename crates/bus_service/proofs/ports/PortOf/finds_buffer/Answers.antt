@@ -16,7 +16,7 @@ returns-clause-there g c =
     ∙ sym (some-mapped _ c.buffer.result)
     ∙ ap is_some c.buffer.ensures
     ∙ ap (λ (blocks : List Unsent). is_some (find (λ b. b.number == c.args.buf) blocks)) (sym (view.same_buffers c.self.inside.bag))
-    ∙ unsent_found c.self.inside.seat c.self.inside.app c.self.inside.left (view.held c.self.inside.bag) c.self.invariant.0 c.args.buf
+    ∙ unsent_found c.self.inside.port.seen c.self.inside.port.app (view.held c.self.inside.bag) c.self.invariant c.args.buf
     ∙ ap (λ (p : PortView). has_unsent (state_of p.seen).unsent p.app c.args.buf) c.self.view_is
 
 pub returns-clause-seen : goal.returns-clause-seen

@@ -1,9 +1,7 @@
 use Rattle.std.proofs.Common.{◌≡◌, true, sym, subst}
 use Rattle.std.specs.Option.{is_some}
-use Rattle.buf_desc.specs.Held.{buffer_at, bytes_at, with_bytes_at}
-use Rattle.bus_service.specs.Inside.{seen_in}
+use Rattle.buf_desc.specs.Held.{buffer_at, bytes_at}
 use Rattle.bus_service.specs.Ports.{PortView}
-use Rattle.bus_service.proofs.LentBuffers.{with_bag}
 use Rattle.bus_service.proofs.unsent.BusPort.write_buffer.Goals as goal
 
 pub bytes_of_mut-requires : goal.bytes_of_mut-requires
@@ -15,8 +13,4 @@ write-requires g c =
     (subst (λ (p : PortView). g.W.Writer.fits c.args.writer (bytes_at p.bag c.args.buf)) (sym c.self.view_is) c.requires.fits)
 
 pub invariant_of-self : goal.invariant_of-self
-invariant_of-self g c = (
-  with_bag c.self.inside.seat c.self.inside.app c.self.inside.left c.self.inside.bag c.self.invariant.0 (with_bytes_at c.self.inside.bag c.args.buf c.write.new.bytes)
-      (c.bags_stay.ensures.written (seen_in c.self.inside.seat) c.self.inside.app c.args.buf c.self.inside.bag c.write.new.bytes c.self.invariant.0.holds),
-  c.self.invariant.1,
-)
+invariant_of-self g c = c.bags_stay.ensures.written c.self.inside.port.seen c.self.inside.port.app c.args.buf c.self.inside.bag c.write.new.bytes c.self.invariant

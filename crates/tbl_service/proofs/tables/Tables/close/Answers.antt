@@ -1,29 +1,21 @@
-use Rattle.std.proofs.Common.{◌≡◌, ap, sym, ◌∙◌, subst, map, All, Contains}
-use Rattle.turn_lock.specs.Seats.{view_of}
-use Rattle.tbl_load.specs.Core.{Core}
-use Rattle.tbl_service.specs.Histories.{own_entries}
-use Rattle.tbl_service.specs.Ports.{MainView, Begins}
-use Rattle.tbl_service.proofs.Mains.{all_joined, ended_are, others_none, seen_begins}
+use Rattle.std.proofs.Common.{ap}
+use Rattle.core_port.specs.Words.{Fixed}
 use Rattle.tbl_service.proofs.tables.Tables.close.Goals as goal
 
-pub close-boxed-requires-clause-joined : goal.close-boxed-requires-clause-joined
-close-boxed-requires-clause-joined c =
-    all_joined (view_of c.main.inside.seat).apps (view_of c.main.inside.seat).ended
-    (subst (λ (m : MainView). All (Contains (map (λ e. e.0) m.ended)) m.apps) (sym c.main.view_is) c.requires.joined)
+pub returns-clause-limits : goal.returns-clause-limits
+returns-clause-limits c = ap (λ (f : Fixed). f.limits) c.close.ensures.opening
+
+pub returns-clause-budgets : goal.returns-clause-budgets
+returns-clause-budgets c = ap (λ (f : Fixed). f.budgets) c.close.ensures.opening
+
+pub returns-clause-legal : goal.returns-clause-legal
+returns-clause-legal c = c.close.ensures.sound.legal
 
 pub returns-clause-extends : goal.returns-clause-extends
-returns-clause-extends c =
-    subst (λ (core : Core). Begins c.args.main.seen core) (sym c.into_core.ensures)
-    (subst (λ (m : MainView). Begins m.seen c.close-boxed.result) c.main.view_is
-    (seen_begins c.close-boxed.result c.recall.ensures.noted (view_of c.main.inside.seat).fixed (view_of c.main.inside.seat).seen c.close-boxed.ensures.extends))
+returns-clause-extends c = c.close.ensures.extends
 
 pub returns-clause-ended : goal.returns-clause-ended
-returns-clause-ended c =
-    subst (λ (core : Core). All (λ e. own_entries e.0 core.log.entries ≡ e.1) c.args.main.ended) (sym c.into_core.ensures)
-    (subst (λ (m : MainView). All (λ e. own_entries e.0 c.close-boxed.result.log.entries ≡ e.1) m.ended) c.main.view_is
-    (ended_are c.close-boxed.result c.recall.ensures.noted (view_of c.main.inside.seat).ended c.close-boxed.ensures.ended))
+returns-clause-ended c = c.close.ensures.ended
 
 pub returns-clause-others : goal.returns-clause-others
-returns-clause-others c = λ app out.
-    ap (λ (core : Core). own_entries app core.log.entries) c.into_core.ensures
-    ∙ others_none c.close-boxed.result c.recall.ensures.noted app (c.close-boxed.ensures.others app (λ there. out (subst (λ (m : MainView). Contains m.apps app) c.main.view_is there)))
+returns-clause-others c = c.close.ensures.others

@@ -1,0 +1,7 @@
+mod ApplicationCounts
+pub mod Histories
+mod Mains
+mod Meetings
+mod TurnFinds
+mod TurnsAfterSleep
+mod Visits
