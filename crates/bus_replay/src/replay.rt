@@ -10,14 +10,14 @@ ghost use Rattle.bus_replay.specs.Places.{place_of};
 ghost use Rattle.bus_replay.specs.Replays.{IsNextCaller, IsReplayed, IsSettled, IsUnderWay, Steps, first_place, have_all_ended};
 
 use crate::calls::{brings, check_playable, makes_entry};
-use crate::lines::keep_line;
+use crate::lines::EntryLine;
 use crate::numbers::one_more;
 use crate::place::AppPlace;
 use app_script::Script;
 use bus_words::BusEntry;
 use fsw_base::AppNo;
 use list_bus::{ListBus, ListStanding};
-use replay_parts::{ComparedText, KeptText, MadeReceipt};
+use replay_parts::{ComparedText, MadeReceipt};
 use std::alloc::{AllocError, Global};
 use std::marker::Model;
 
@@ -33,7 +33,7 @@ pub struct BusReplay<'s> {
     // Where each application is among its lines, number 1 first.
     places: Vec<AppPlace>,
     // The line of the latest entry.
-    line: KeptText,
+    line: EntryLine,
 }
 
 impl<'s> Model for BusReplay<'s> {
@@ -78,7 +78,7 @@ impl<'s> BusReplay<'s> {
             bus,
             entries: 0,
             places,
-            line: KeptText::new(alloc),
+            line: EntryLine::new(alloc),
         })
     }
 
@@ -153,7 +153,7 @@ impl<'s> BusReplay<'s> {
             return Ok(BusStep::Wrong(text.wrong_line(&[])?));
         }
         let entry = BusEntry { app, call, answer };
-        keep_line(&mut self.line, number, &entry)?;
+        self.line.keep(number, &entry)?;
         if !text.take(self.line.as_slice()) {
             return Ok(BusStep::Wrong(text.wrong_line(self.line.as_slice())?));
         }

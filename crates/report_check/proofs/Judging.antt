@@ -138,6 +138,18 @@ tail_missing at tail wrong same = wrong ([], same ∙ sym (append-nil tail))
 pub more_behind : (at to : Compared) (tail : List ℕ) → GoesPast at to tail → ¬ (to.rest ≡ []) → ¬ (at.rest ≡ tail)
 more_behind at to tail past more same = more (append_cancel_left tail to.rest [] (sym past.rest ∙ same ∙ sym (append-nil tail)))
 
+-- the number of the line behind an end that is there
+pub line_behind_end : (at to : Compared) (tail : List ℕ) → GoesPast at to tail → to.lines + wrong_line to.rest [] ≡ at.lines + wrong_line at.rest tail
+line_behind_end at to tail past =
+    ap (λ n. n + wrong_line to.rest []) past.lines
+    ∙ moved
+    ∙ ap (λ n. at.lines + n) (sym (wrong_behind tail to.rest []))
+    ∙ ap (λ t. at.lines + wrong_line (tail ++ to.rest) t) (append-nil tail)
+    ∙ ap (λ b. at.lines + wrong_line b tail) (sym past.rest)
+  where
+    moved : (at.lines + line_ends tail) + wrong_line to.rest [] ≡ at.lines + (line_ends tail + wrong_line to.rest [])
+    moved = omega arith
+
 -- what is judged of the end is the answer on the whole
 pub end_is_answered : (script : ScriptText) (bytes tail : List ℕ) (h : Histories) (at : Compared) (verdict : Judgement) → IsScript script → IsRunOf script h →
     GoesPast (unread bytes) at (entries_part script h) → report script h ≡ entries_part script h ++ tail → IsTailJudged at tail verdict → IsAnswer script bytes verdict

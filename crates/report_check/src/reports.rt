@@ -78,10 +78,11 @@ fn check_tables(
 fn check_tail(text: &mut ComparedText<'_>, tail: &[u8]) -> Result<Judgement, AllocError>
     ensures { IfOk result (λ verdict. IsTailJudged text.old tail.now verdict) }
 {
-    let line = text.wrong_line(tail)?;
-    if text.take(tail) && text.is_at_end() {
-        Ok(Judgement::Yes)
-    } else {
-        Ok(Judgement::No(line))
+    if !text.take(tail) {
+        return Ok(Judgement::No(text.wrong_line(tail)?));
     }
+    if !text.is_at_end() {
+        return Ok(Judgement::No(text.wrong_line(&[])?));
+    }
+    Ok(Judgement::Yes)
 }

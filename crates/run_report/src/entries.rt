@@ -43,15 +43,20 @@ pub fn write_bus_entry<K: Sink>(
     ensures same_sink { sink.new.sink ≡ sink.old.sink }
 {
     let mut page = Page::new();
-    put_line(
-        sink,
-        &mut page,
-        number,
-        entry.app,
-        &entry.call,
-        &entry.answer,
-    );
+    put_bus_entry(sink, &mut page, number, entry);
     finish(sink, &mut page)
+}
+
+/// Puts the line of one entry of the bus, under this number.
+pub fn put_bus_entry<K: Sink>(
+    sink: &mut SinkGuard<'_, K>,
+    page: &mut Page,
+    number: u32,
+    entry: &BusEntry<'_>,
+)
+    ensures { Puts sink.old sink.new page.old page.new (entry_text number (entry_of entry.now)) }
+{
+    put_line(sink, page, number, entry.app, &entry.call, &entry.answer);
 }
 
 // Puts the line of one entry of a journal.

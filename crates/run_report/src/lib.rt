@@ -47,11 +47,11 @@ mod table_entries;
 mod writer;
 
 pub use counters::{put_counts, put_desk, put_table_uses, put_uses};
-pub use entries::write_bus_entry;
+pub use entries::{put_bus_entry, write_bus_entry};
 pub use events::{put_log, write_log_line};
 pub use laws::reports_tell_applications_and_answers;
 pub use pools::{HasAccount, PoolName, put_account};
 pub use readings::{BusReadings, TableReadings};
 pub use receipts::{put_receipt, write_receipt};
-pub use table_entries::write_tbl_entry;
+pub use table_entries::{put_table_entry, write_tbl_entry};
 pub use writer::{write_ending, write_report};

@@ -52,8 +52,8 @@ pub fn write_tbl_entry<K: Sink>(
     finish(sink, &mut page)
 }
 
-// Puts the line of one entry.
-fn put_table_entry<K: Sink>(
+/// Puts the line of one entry of the tables, under this number.
+pub fn put_table_entry<K: Sink>(
     sink: &mut SinkGuard<'_, K>,
     page: &mut Page,
     number: u32,

@@ -8,13 +8,13 @@ ghost use Rattle.tbl_words.specs.Uses.{greater_of};
 ghost use Rattle.run_check.specs.Judged.{Begins, entry_head};
 ghost use Rattle.table_replay.specs.Replays.{IsReplayed, IsUnderWay, IsNextCaller, Steps, first_place, have_all_ended, settled};
 
-use crate::lines::keep_line;
+use crate::lines::EntryLine;
 use crate::numbers::one_more;
 use crate::place::AppPlace;
 use app_script::Script;
 use fsw_base::AppNo;
 use list_tables::ListTables;
-use replay_parts::{ComparedText, KeptText, MadeReceipt};
+use replay_parts::{ComparedText, MadeReceipt};
 use std::alloc::{AllocError, Global};
 use std::marker::Model;
 use tbl_words::{TblEntry, TblUse};
@@ -33,7 +33,7 @@ pub struct TableReplay<'s> {
     // Where each application is among its lines, number 1 first.
     places: Vec<AppPlace>,
     // The line of the latest entry.
-    line: KeptText,
+    line: EntryLine,
 }
 
 impl<'s> Model for TableReplay<'s> {
@@ -82,7 +82,7 @@ impl<'s> TableReplay<'s> {
             peak,
             entries: 0,
             places,
-            line: KeptText::new(alloc),
+            line: EntryLine::new(alloc),
         })
     }
 
@@ -149,7 +149,7 @@ impl<'s> TableReplay<'s> {
         let call = place.next_call(lines, &made).unwrap();
         let answer = self.tables.step(alloc, app, &call)?;
         let entry = TblEntry { app, call, answer };
-        keep_line(&mut self.line, number, &entry)?;
+        self.line.keep(number, &entry)?;
         if !text.take(self.line.as_slice()) {
             return Ok(TableStep::Wrong(text.wrong_line(self.line.as_slice())?));
         }

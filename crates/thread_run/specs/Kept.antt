@@ -1,5 +1,5 @@
 -- What a thread promises of its application.
-use Rattle.std.specs.Prelude.{◌≡◌, ℕ, ◌≤◌, [], Result, Ok, Err, vec_capacity}
+use Rattle.std.specs.Prelude.{◌≡◌, ℕ, ◌≤◌, [], length, Result, Ok, Err, vec_capacity}
 use Rattle.std.specs.declared.thread.PromisedHandle.{PromisedHandle}
 use Rattle.std.specs.declared.thread.SpawnError.{SpawnError}
 use Rattle.atomic_table.specs.Seated.{TableId}
@@ -47,9 +47,11 @@ abbrev pub RunsIn : ScriptText → TableId → TableId → ℕ → Place Done En
 RunsIn script bus tables app (OnThread handle) = EndsFor script bus tables app handle.promise
 RunsIn script bus tables app (Here done) = IsDone script bus tables app done
 
--- the application of this number was begun
-abbrev pub IsBegun : ScriptText → TableId → TableId → ℕ → Begun Done Ends → Type 0
-IsBegun script bus tables app begun = RunsIn script bus tables app begun.place
+-- the application of this number was begun, in a run of as many as the script has
+pub record IsBegun (script : ScriptText) (bus tables : TableId) (app : ℕ)
+    (begun : Begun Done Ends) : Type 0 where
+  pub runs : RunsIn script bus tables app begun.place
+  pub apps : begun.apps ≡ length script.apps
 
 -- both lists are empty, and have room for so many applications
 pub record HaveRoomFor (apps : ℕ) (lists : Lists) : Type 0 where

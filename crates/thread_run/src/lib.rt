@@ -62,5 +62,5 @@ pub use meeting::meet_works;
 pub use opening::{OpenServices, open_services, open_works};
 pub use run::run_threads;
 pub use starting::{Lists, begin_all, end_all};
-pub use starts::{AllStarted, Begun, Start, start_one};
+pub use starts::{Begun, OfRun, Start, Starts, start_one};
 pub use works::{Done, Ends, RunParts, Work};

@@ -1,11 +1,11 @@
 //! Starts all applications, each on a thread of its own, and waits for their ends.
-ghost use Rattle.std.specs.Prelude.{◌≡◌, ◌≤◌, [], length, IfOk, vec_len, vec_capacity};
-ghost use Rattle.thread_run.specs.Kept.{Comes, HaveRoomFor, IsBegun};
+ghost use Rattle.std.specs.Prelude.{◌≡◌, ◌+◌, ◌≤◌, [], length, IfOk, vec_len, vec_capacity};
+ghost use Rattle.thread_run.specs.Kept.{HaveRoomFor, IsBegun};
 ghost use Rattle.thread_run.specs.Whole.{whole};
 ghost use Rattle.thread_run.specs.Works.{IsDone, MayWork, Numbered};
 
 use crate::lists::{note_begun, note_done, take_last, take_last_begun};
-use crate::starts::{AllStarted, Begun, start_one};
+use crate::starts::{Begun, Starts, start_one};
 use crate::works::{Done, Ends, Job, RunParts, Work, run_one};
 use fsw_base::Gate;
 use std::alloc::{AllocError, Global};
@@ -49,6 +49,7 @@ pub(crate) fn run_all<'e, 'r, R: Threads + Wait + Sync, G: Gate>(
 ) -> Vec<Done>
     requires works { Numbered (MayWork (whole shared) shared.bus.now shared.tables.now) 1
         works.items }
+    requires apps { length works.items ≡ length (whole shared).apps }
     requires room { HaveRoomFor (length works.items) lists }
     ensures done { Numbered (IsDone (whole shared.entry) shared.entry.bus.now
         shared.entry.tables.now) 1 result.items }
@@ -67,6 +68,7 @@ pub(crate) fn run_all<'e, 'r, R: Threads + Wait + Sync, G: Gate>(
         move |scope| -> Vec<Done>
             requires works { Numbered (MayWork (whole jobs.shared) jobs.shared.bus.now
                 jobs.shared.tables.now) 1 jobs.works.items }
+            requires apps { length jobs.works.items ≡ length (whole jobs.shared).apps }
             requires room { HaveRoomFor (length jobs.works.items) jobs.lists }
             ensures done { Numbered (IsDone (whole jobs.entry.shared) jobs.entry.shared.bus.now
                 jobs.entry.shared.tables.now) 1 result.items }
@@ -98,6 +100,7 @@ fn run_in<'s, 'x, 'e: 's, 'r: 's, R: Threads + Wait + Sync, G: Gate>(
 ) -> Vec<Done>
     requires works { Numbered (MayWork (whole jobs.shared) jobs.shared.bus.now
         jobs.shared.tables.now) 1 jobs.works.items }
+    requires apps { length jobs.works.items ≡ length (whole jobs.shared).apps }
     requires room { HaveRoomFor (length jobs.works.items) jobs.lists }
     ensures done { Numbered (IsDone (whole jobs.entry.shared) jobs.entry.shared.bus.now
         jobs.entry.shared.tables.now) 1 result.items }
@@ -114,8 +117,9 @@ fn run_in<'s, 'x, 'e: 's, 'r: 's, R: Threads + Wait + Sync, G: Gate>(
         mut begun,
         mut dones,
     } = lists;
-    let all = begin_all(scope, rt, gate, shared, &mut works, &mut begun);
-    end_all(rt, shared, &mut begun, &mut dones, &all);
+    let mut starts = Starts::none();
+    begin_all(scope, rt, gate, shared, &mut works, &mut starts, &mut begun);
+    end_all(rt, shared, &mut begun, &mut dones, &starts);
     dones
 }
 
@@ -128,24 +132,28 @@ pub fn begin_all<'s, 'x, 'e: 's, 'r: 's, R: Threads + Wait + Sync, G: Gate>(
     gate: &'e G,
     shared: RunParts<'e, 'r>,
     works: &mut Vec<Work<'e, 'r>>,
+    starts: &mut Starts,
     begun: &mut Vec<Begun<Done, Ends<'e, 'r>>>,
-) -> AllStarted
+)
     requires works { Numbered (MayWork (whole shared) shared.bus.now shared.tables.now) 1
         works.old.items }
+    requires left { starts.old + length works.old.items ≡ length (whole shared).apps }
     requires empty { begun.old.items ≡ [] }
     requires room { vec_len works.old ≤ vec_capacity begun.old }
     ensures begun { Numbered (IsBegun (whole shared.entry) shared.entry.bus.now
         shared.entry.tables.now) 1 begun.new.items }
     ensures all { length begun.new.items ≡ length works.old.items }
+    ensures asked { starts.new ≡ length (whole shared.entry).apps }
     ensures room { vec_capacity begun.new ≡ vec_capacity begun.old }
 {
     let Some(one) = take_last(works, shared) else {
-        return AllStarted::none_left(works.as_slice());
+        return;
     };
     let app = one.runner.app();
     let ends = Ends { shared, app };
     let job = Job { shared, work: one };
     let start = start_one(
+        starts,
         scope,
         ends,
         move || -> Done
@@ -153,10 +161,9 @@ pub fn begin_all<'s, 'x, 'e: 's, 'r: 's, R: Threads + Wait + Sync, G: Gate>(
                 job.work.runner.running.app job.work }
         { run_one(rt, gate, job) },
     );
-    let all = begin_all(scope, rt, gate, shared, works, begun);
-    let one = start.begin(&all);
+    begin_all(scope, rt, gate, shared, works, starts, begun);
+    let one = start.begin(starts);
     note_begun(begun, shared, app, one);
-    all
 }
 
 /// Waits for the ends of those that are left, in order of number.
@@ -165,10 +172,11 @@ pub fn end_all<'e, 'r, R: Threads>(
     shared: RunParts<'_, 'r>,
     begun: &mut Vec<Begun<Done, Ends<'e, 'r>>>,
     dones: &mut Vec<Done>,
-    all: &AllStarted,
+    starts: &Starts,
 )
     requires begun { Numbered (IsBegun (whole shared) shared.bus.now shared.tables.now) 1
         begun.old.items }
+    requires asked { length (whole shared).apps ≤ starts.now }
     requires empty { dones.old.items ≡ [] }
     requires room { length begun.old.items ≤ vec_capacity dones.old }
     ensures dones { Numbered (IsDone (whole shared.entry) shared.entry.bus.now
@@ -179,7 +187,7 @@ pub fn end_all<'e, 'r, R: Threads>(
     let Some(one) = take_last_begun(begun, shared) else {
         return;
     };
-    end_all(rt, shared, begun, dones, all);
-    let done = one.end(rt, all);
+    end_all(rt, shared, begun, dones, starts);
+    let done = one.end(rt, starts);
     note_done(dones, shared, done);
 }

@@ -1,5 +1,5 @@
 //! One application's run on its thread.
-ghost use Rattle.std.specs.Prelude.{◌≡◌, true};
+ghost use Rattle.std.specs.Prelude.{◌≡◌, length, true};
 ghost use Rattle.bus_words.specs.Bus.{has_ended, standing_of};
 ghost use Rattle.sb_calls.specs.Core.{state_of};
 ghost use Rattle.tbl_words.specs.Tables.{has_ended as has_ended_at_tables};
@@ -11,6 +11,7 @@ ghost use Rattle.app_run.specs.Turns.{MayTurn, TakesTurnBy};
 ghost use Rattle.thread_run.specs.Whole.{whole};
 ghost use Rattle.thread_run.specs.Works.{MayWork, IsDone};
 
+use crate::starts::OfRun;
 use app_calls::Calls;
 use app_run::{Runner, Turned};
 use app_script::Script;
@@ -37,6 +38,18 @@ pub struct RunParts<'e, 'r> {
     pub bus: &'e Bus<'r>,
     /// Table Services.
     pub tables: &'e Tables<'r>,
+}
+
+impl RunParts<'_, '_> {
+    /// How many applications the run has, with the one beside.
+    pub fn apps(self) -> u32
+        ensures { result ≡ length (whole self.entry).apps }
+    {
+        match self.beside {
+            None => self.script.apps(),
+            Some(_) => self.script.apps() + 1,
+        }
+    }
 }
 
 /// What an application takes along to its thread.
@@ -75,6 +88,17 @@ impl<'e, 'r> Promise<Done> for Ends<'e, 'r> {
     ghost use Rattle.thread_run.specs.Kept.{KeptBy};
 
     ghost kept_by = { KeptBy };
+}
+
+impl<'e, 'r> OfRun for Ends<'e, 'r> {
+    ghost use Rattle.std.specs.Prelude.{length};
+    ghost use Rattle.thread_run.specs.Whole.{whole};
+
+    ghost run_apps = { λ ends. length (whole ends.shared).apps };
+
+    fn apps(&self) -> u32 {
+        self.shared.apps()
+    }
 }
 
 /// An application's run, as its thread is given it: in one value, which the thread's closure moves

@@ -8,7 +8,7 @@ use Rattle.run_report.proofs.entries.write_bus_entry.Goals as goal
 pub returns : goal.returns
 returns g c =
     let text = entry_text c.args.number (entry_of c.args.entry.now) in
-    let all = puts_as text (append-nil text) (c.put_line.ensures ▸ c.finish.ensures.puts) in
+    let all = puts_as text (append-nil text) (c.put_bus_entry.ensures ▸ c.finish.ensures.puts) in
     let blank = c.new-page.ensures in
     record {
       ok = on_ok_both c.finish.result (puts_whole c.requires blank all) c.finish.ensures.none_failed c.finish.ensures.ok;
