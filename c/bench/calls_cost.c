@@ -16,7 +16,7 @@
 #include <stdlib.h>
 #include <string.h>
 
-/* So that a round is one piece of code, as plain_bus's is, and has no test whether there is a lock. */
+/* So that a round is one piece of code, as plain_bus's is, without a test for the lock. */
 #define ALWAYS_INLINE static inline __attribute__((always_inline))
 
 enum { IDS = 4, DEPTH = 256, MOST_PIPES = 64, TABLE_BYTES = 16384 };
@@ -61,7 +61,8 @@ ALWAYS_INLINE unsigned long receive_on(bool has_lock, unsigned long round, uint3
     for (uint32_t i = 0; i < dests; i++) {
         struct fsw_message message;
         lock(has_lock);
-        if (done(has_lock, fsw_receive(&core, 1, pipes[round % IDS + i * IDS], &message)) == FSW_SUCCESS) {
+        if (done(has_lock, fsw_receive(&core, 1, pipes[round % IDS + i * IDS], &message)) ==
+            FSW_SUCCESS) {
             seen = message.at[0];
             (void)seen;
             received++;
@@ -120,7 +121,8 @@ ALWAYS_INLINE unsigned long load_and_read(bool has_lock, unsigned long rounds)
         if (done(has_lock, fsw_table_load(&core, 1, handle, 0, value, TABLE_BYTES)) != FSW_SUCCESS)
             continue;
         lock(has_lock);
-        if (done(has_lock, fsw_table_get_address(&core, 1, handle, &address)) != FSW_TBL_INFO_UPDATED)
+        if (done(has_lock, fsw_table_get_address(&core, 1, handle, &address)) !=
+            FSW_TBL_INFO_UPDATED)
             continue;
         seen = address.at[0];
         (void)seen;

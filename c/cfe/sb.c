@@ -152,7 +152,8 @@ CFE_Status_t CFE_SB_Unsubscribe(CFE_SB_MsgId_t MsgId, CFE_SB_PipeId_t PipeId)
     if (!app)
         return CFE_SB_BAD_ARGUMENT;
     uint32_t status = fsw_unsubscribe(&fsw_layer.core, app->number, core_id(MsgId), PipeId);
-    return fsw_leave_bus((struct fsw_asked){"Unsubscribe", CFE_SB_UNSUB_ARG_ERR_EID, MsgId}, status);
+    return fsw_leave_bus((struct fsw_asked){"Unsubscribe", CFE_SB_UNSUB_ARG_ERR_EID, MsgId},
+                         status);
 }
 
 CFE_Status_t CFE_SB_UnsubscribeLocal(CFE_SB_MsgId_t MsgId, CFE_SB_PipeId_t PipeId)
@@ -204,7 +205,7 @@ FSW_SELDOM static void send_housekeeping(const struct fsw_sent *request)
     CFE_SB_HousekeepingTlm_t packet;
     struct fsw_counters counts;
     struct fsw_use now, peak;
-    /* In cFE the bus subscribes to requests: one that no pipe got is no event, and isn't counted. */
+    /* In cFE the bus subscribes to it: that no pipe got it isn't counted, and is no event. */
     if (request->number == 0) {
         fsw_layer.requests++;
         fsw_layer.events_seen++;
@@ -224,7 +225,8 @@ FSW_SELDOM static void send_housekeeping(const struct fsw_sent *request)
         .PipeOverflowErrorCounter = (uint16)counts.overflow,
         .MsgLimitErrorCounter = (uint16)counts.limit,
         .MemInUse = now.bytes,
-        .UnmarkedMem = fsw_layer.limits.pool - peak.bytes};
+        .UnmarkedMem = fsw_layer.limits.pool - peak.bytes,
+    };
     fsw_send_own(fsw_self->app, &packet.TelemetryHeader, sizeof packet);
 }
 

@@ -378,9 +378,8 @@ static void test_housekeeping(void)
     CFE_SB_PipeId_t events, pipe = pipe_for("HK", CFE_SB_HK_TLM_MID);
     cmd_t cmd;
     CHECK_STATUS(CFE_SB_CreatePipe(&events, 64, "EVENTS"), CFE_SUCCESS);
-    CHECK_STATUS(
-        CFE_SB_SubscribeEx(CFE_EVS_LONG_EVENT_MSG_MID, events, CFE_SB_DEFAULT_QOS, 64),
-        CFE_SUCCESS);
+    CHECK_STATUS(CFE_SB_SubscribeEx(CFE_EVS_LONG_EVENT_MSG_MID, events, CFE_SB_DEFAULT_QOS, 64),
+                 CFE_SUCCESS);
     count_some(pipe);
     while (CFE_SB_ReceiveBuffer(&buffer, events, CFE_SB_POLL) == CFE_SUCCESS)
         ;
