@@ -16,20 +16,22 @@
 #include <stdlib.h>
 #include <string.h>
 
+/* So that a round is one piece of code, as plain_bus's is, without a test for the lock. */
+#define ALWAYS_INLINE static inline __attribute__((always_inline))
+
 enum { IDS = 4, DEPTH = 256, MOST_PIPES = 64, TABLE_BYTES = 16384 };
 
 static struct fsw_core core;
 static pthread_mutex_t mutex = PTHREAD_MUTEX_INITIALIZER;
-static bool has_lock;
 static uint32_t pipes[MOST_PIPES];
 
-static void lock(void)
+ALWAYS_INLINE void lock(bool has_lock)
 {
     if (has_lock)
         pthread_mutex_lock(&mutex);
 }
 
-static uint32_t done(uint32_t status)
+ALWAYS_INLINE uint32_t done(bool has_lock, uint32_t status)
 {
     if (has_lock)
         pthread_mutex_unlock(&mutex);
@@ -52,14 +54,15 @@ static void open_pipes(uint32_t dests)
     }
 }
 
-static unsigned long receive_on(unsigned long round, uint32_t dests)
+ALWAYS_INLINE unsigned long receive_on(bool has_lock, unsigned long round, uint32_t dests)
 {
     unsigned long received = 0;
     volatile uint8_t seen;
     for (uint32_t i = 0; i < dests; i++) {
         struct fsw_message message;
-        lock();
-        if (done(fsw_receive(&core, 1, pipes[round % IDS + i * IDS], &message)) == FSW_SUCCESS) {
+        lock(has_lock);
+        if (done(has_lock, fsw_receive(&core, 1, pipes[round % IDS + i * IDS], &message)) ==
+            FSW_SUCCESS) {
             seen = message.at[0];
             (void)seen;
             received++;
@@ -68,7 +71,8 @@ static unsigned long receive_on(unsigned long round, uint32_t dests)
     return received;
 }
 
-static unsigned long carry_messages(unsigned long rounds, uint32_t size, uint32_t dests)
+ALWAYS_INLINE unsigned long carry_messages(bool has_lock, unsigned long rounds, uint32_t size,
+                                           uint32_t dests)
 {
     unsigned long received = 0;
     uint8_t *message = calloc(1, size);
@@ -76,33 +80,33 @@ static unsigned long carry_messages(unsigned long rounds, uint32_t size, uint32_
     for (unsigned long round = 0; message && round < rounds; round++) {
         struct fsw_sent sent;
         fsw_write_header(message, size, id_of(round), 0);
-        lock();
-        if (done(fsw_transmit(&core, 1, message, size, true, &sent)) == FSW_SUCCESS)
-            received += receive_on(round, dests);
+        lock(has_lock);
+        if (done(has_lock, fsw_transmit(&core, 1, message, size, true, &sent)) == FSW_SUCCESS)
+            received += receive_on(has_lock, round, dests);
     }
     free(message);
     return received;
 }
 
-static unsigned long carry_buffers(unsigned long rounds, uint32_t size)
+ALWAYS_INLINE unsigned long carry_buffers(bool has_lock, unsigned long rounds, uint32_t size)
 {
     unsigned long received = 0;
     struct fsw_buffer buffer = {NULL, 0, 0, 0};
     open_pipes(1);
     for (unsigned long round = 0; round < rounds; round++) {
         struct fsw_sent sent;
-        lock();
-        if (done(fsw_allocate_buffer(&core, 1, size, &buffer)) != FSW_SUCCESS)
+        lock(has_lock);
+        if (done(has_lock, fsw_allocate_buffer(&core, 1, size, &buffer)) != FSW_SUCCESS)
             continue;
         fsw_write_header(buffer.at, size, id_of(round), 0);
-        lock();
-        if (done(fsw_transmit_buffer(&core, 1, &buffer, true, &sent)) == FSW_SUCCESS)
-            received += receive_on(round, 1);
+        lock(has_lock);
+        if (done(has_lock, fsw_transmit_buffer(&core, 1, &buffer, true, &sent)) == FSW_SUCCESS)
+            received += receive_on(has_lock, round, 1);
     }
     return received;
 }
 
-static unsigned long load_and_read(unsigned long rounds)
+ALWAYS_INLINE unsigned long load_and_read(bool has_lock, unsigned long rounds)
 {
     unsigned long read = 0;
     uint32_t handle;
@@ -113,39 +117,46 @@ static unsigned long load_and_read(unsigned long rounds)
         return 0;
     for (unsigned long round = 0; round < rounds; round++) {
         struct fsw_address address;
-        lock();
-        if (done(fsw_table_load(&core, 1, handle, 0, value, TABLE_BYTES)) != FSW_SUCCESS)
+        lock(has_lock);
+        if (done(has_lock, fsw_table_load(&core, 1, handle, 0, value, TABLE_BYTES)) != FSW_SUCCESS)
             continue;
-        lock();
-        if (done(fsw_table_get_address(&core, 1, handle, &address)) != FSW_TBL_INFO_UPDATED)
+        lock(has_lock);
+        if (done(has_lock, fsw_table_get_address(&core, 1, handle, &address)) !=
+            FSW_TBL_INFO_UPDATED)
             continue;
         seen = address.at[0];
         (void)seen;
-        lock();
-        read += done(fsw_table_release_address(&core, 1, handle)) == FSW_SUCCESS;
+        lock(has_lock);
+        read += done(has_lock, fsw_table_release_address(&core, 1, handle)) == FSW_SUCCESS;
     }
     return read;
 }
 
-int main(int argc, char **argv)
+ALWAYS_INLINE unsigned long carry(bool has_lock, const char *word, unsigned long rounds)
 {
     static const struct {
         const char *word;
         uint32_t size, dests;
     } sends[] = {{"send1", 64, 1}, {"fan16", 64, 16}, {"big", 32768, 1}, {"fanbig", 32768, 16}};
-    const char *word = argc > 1 ? argv[1] : "";
-    unsigned long rounds = argc > 2 ? strtoul(argv[2], NULL, 10) : 0, received = 0;
-    struct fsw_limits limits = FSW_USUAL_LIMITS;
-    has_lock = argc > 3 && strcmp(argv[3], "lock") == 0;
-    if (fsw_open(&core, &limits) != FSW_SUCCESS)
-        return 1;
+    if (strcmp(word, "zc") == 0)
+        return carry_buffers(has_lock, rounds, 64);
+    if (strcmp(word, "table") == 0)
+        return load_and_read(has_lock, rounds);
     for (size_t i = 0; i < sizeof sends / sizeof sends[0]; i++)
         if (strcmp(word, sends[i].word) == 0)
-            received = carry_messages(rounds, sends[i].size, sends[i].dests);
-    if (strcmp(word, "zc") == 0)
-        received = carry_buffers(rounds, 64);
-    if (strcmp(word, "table") == 0)
-        received = load_and_read(rounds);
+            return carry_messages(has_lock, rounds, sends[i].size, sends[i].dests);
+    return 0;
+}
+
+int main(int argc, char **argv)
+{
+    const char *word = argc > 1 ? argv[1] : "";
+    unsigned long rounds = argc > 2 ? strtoul(argv[2], NULL, 10) : 0;
+    struct fsw_limits limits = FSW_USUAL_LIMITS;
+    if (fsw_open(&core, &limits) != FSW_SUCCESS)
+        return 1;
+    bool has_lock = argc > 3 && strcmp(argv[3], "lock") == 0;
+    unsigned long received = has_lock ? carry(true, word, rounds) : carry(false, word, rounds);
     printf("%s rounds=%lu received=%lu\n", word, rounds, received);
     return fsw_close(&core) == FSW_SUCCESS ? 0 : 1;
 }

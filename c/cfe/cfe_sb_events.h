@@ -1,6 +1,6 @@
 /*
  * cfe_sb_events.h: the ids of the events that the bus itself sends, as application CFE_SB: cFE's
- * numbers.
+ * numbers, from memory of cFE 7.
  */
 #ifndef CFE_SB_EVENTS_H
 #define CFE_SB_EVENTS_H
@@ -15,7 +15,10 @@
 /* Not cFE's: a full pipe dropped its oldest message for the new one (limits.version 2). */
 #define FSW_SB_OLDEST_INF_EID 100
 
-/* A refused call. */
+/*
+ * A refused call: one id for a status and call. cFE tells some causes apart by further ids: a pipe
+ * that isn't there or isn't the caller's, an invalid message id, a name that is taken.
+ */
 #define CFE_SB_CR_PIPE_BAD_ARG_EID 2
 #define CFE_SB_MAX_PIPES_MET_EID   3
 #define CFE_SB_CR_PIPE_ERR_EID     4

@@ -168,8 +168,7 @@ CFE_Status_t CFE_ES_PoolCreate(CFE_ES_MemHandle_t *PoolID, void *MemPtr, size_t 
                 pool->sizes[i] = stats.size;
         *PoolID = number;
     }
-    fsw_leave();
-    return fsw_status(status, CFE_ES_BAD_ARGUMENT);
+    return fsw_leave_with(status, CFE_ES_BAD_ARGUMENT);
 }
 
 /* The mutex round all calls is there anyway. */
@@ -327,8 +326,7 @@ CFE_Status_t CFE_ES_GetMemPoolStats(CFE_ES_MemPoolStats_t *BufPtr, CFE_ES_MemHan
             if (fsw_pool_class(&fsw_layer.core, PoolID, i, &size) == FSW_SUCCESS)
                 BufPtr->BlockStats[i] = (CFE_ES_BlockStats_t){size.size, size.made, size.free};
     }
-    fsw_leave();
-    return fsw_status(status, CFE_ES_BAD_ARGUMENT);
+    return fsw_leave_with(status, CFE_ES_BAD_ARGUMENT);
 }
 
 /* The core takes back what the application has of all pools; so the blocks are free here too. */

@@ -33,11 +33,10 @@ CFE_Status_t CFE_EVS_Register(const void *Filters, uint16 NumEventFilters, uint1
         for (uint32_t i = 0; i < count; i++)
             app->filter[i] = taken[i].id;
     }
-    fsw_leave();
     /* As in cFE, the first eight filters are taken then. */
     if (status == FSW_SUCCESS && count < NumEventFilters)
-        return CFE_EVS_APP_FILTER_OVERLOAD;
-    return fsw_status(status, CFE_EVS_INVALID_PARAMETER);
+        status = (uint32_t)CFE_EVS_APP_FILTER_OVERLOAD;
+    return fsw_leave_with(status, CFE_EVS_INVALID_PARAMETER);
 }
 
 /* Sends the packet of an event that passed, as a message of the application's. */
@@ -46,9 +45,7 @@ static void send_packet(const struct app *app, const char *from, uint16 id, uint
 {
     CFE_EVS_LongEventTlm_t packet;
     CFE_EVS_PacketID_t *head = &packet.Payload.PacketID;
-    struct fsw_sent sent;
     CFE_MSG_Init(CFE_MSG_PTR(packet.TelemetryHeader), CFE_EVS_LONG_EVENT_MSG_MID, sizeof packet);
-    CFE_SB_TimeStampMsg(CFE_MSG_PTR(packet.TelemetryHeader));
     snprintf(head->AppName, sizeof head->AppName, "%s", from);
     head->EventID = id;
     head->EventType = type;
@@ -59,9 +56,7 @@ static void send_packet(const struct app *app, const char *from, uint16 id, uint
     /* cFE's mark of a text that was cut. */
     if (length > most)
         packet.Payload.Message[most - 1] = '$';
-    if (fsw_transmit(&fsw_layer.core, app->number, &packet, sizeof packet, true, &sent) ==
-        FSW_SUCCESS)
-        fsw_wake(&sent);
+    fsw_send_own(app, &packet.TelemetryHeader, sizeof packet);
 }
 
 static void print_event(const struct fsw_config *config, const char *from, uint16 id,
@@ -168,7 +163,7 @@ static void print_events(const struct fsw_config *config, const struct told *tol
         print_event(config, bus_name, told->event[i].id, told->event[i].text);
 }
 
-void fsw_leave_telling(struct fsw_asked asked, uint32_t status)
+CFE_Status_t fsw_leave_telling(struct fsw_asked asked, uint32_t status)
 {
     const struct app *app = fsw_self->app;
     struct told told;
@@ -181,6 +176,7 @@ void fsw_leave_telling(struct fsw_asked asked, uint32_t status)
     fsw_leave();
     if (config.prints_events)
         print_events(&config, &told);
+    return fsw_status(status, CFE_SB_BAD_ARGUMENT);
 }
 
 /* ---- The applications' events ---- */
@@ -217,8 +213,7 @@ CFE_Status_t CFE_EVS_ResetFilter(uint16 EventID)
     if (!app)
         return CFE_ES_ERR_RESOURCEID_NOT_VALID;
     uint32_t status = fsw_reset_filter(&fsw_layer.core, app->number, EventID);
-    fsw_leave();
-    return fsw_status(status, CFE_EVS_INVALID_PARAMETER);
+    return fsw_leave_with(status, CFE_EVS_INVALID_PARAMETER);
 }
 
 CFE_Status_t CFE_EVS_ResetAllFilters(void)
@@ -233,6 +228,5 @@ CFE_Status_t CFE_EVS_ResetAllFilters(void)
     if (app->filters == 0 &&
         fsw_reset_filter(&fsw_layer.core, app->number, 0) == FSW_EVS_APP_NOT_REGISTERED)
         status = FSW_EVS_APP_NOT_REGISTERED;
-    fsw_leave();
-    return fsw_status(status, CFE_EVS_INVALID_PARAMETER);
+    return fsw_leave_with(status, CFE_EVS_INVALID_PARAMETER);
 }

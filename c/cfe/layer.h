@@ -93,6 +93,7 @@ struct layer {
     struct fsw_limits limits;
     struct fsw_config config;
     uint32_t events_seen; /* events that the core had logged when the last of the bus was told */
+    uint32_t requests;    /* for the housekeeping packet, that no pipe got */
     uint16_t bus_events[BUS_EVENTS + 1]; /* how many of each kind there were, at most 65535 */
     uint32_t apps;
     struct app app[MOST_APPS];
@@ -165,15 +166,25 @@ static inline CFE_Status_t fsw_status(uint32_t status, CFE_Status_t otherwise)
     return status >> 16 == 0xc000 ? otherwise : (CFE_Status_t)status;
 }
 
+/* Ends a call with such a status. */
+static inline CFE_Status_t fsw_leave_with(uint32_t status, CFE_Status_t otherwise)
+{
+    fsw_leave();
+    return fsw_status(status, otherwise);
+}
+
 /* Wakes those who sleep on a pipe that has a message. */
 FSW_SELDOM void fsw_wake_sleepers(void);
 
 /* Does so after a send. */
 static inline void fsw_wake(const struct fsw_sent *sent)
 {
-    if (sent->reached > 0 && fsw_layer.asleep)
+    if (fsw_layer.asleep && sent->reached > 0)
         fsw_wake_sleepers();
 }
+
+/* Sends telemetry of the layer's own, with the present time, as a message of the application's. */
+void fsw_send_own(const struct app *app, CFE_MSG_TelemetryHeader_t *packet, size_t size);
 
 /* A call of the bus, if cFE tells by an event that it was refused. */
 struct fsw_asked {
@@ -186,7 +197,7 @@ struct fsw_asked {
  * Ends the caller's call with this status. What the bus logged of it is sent and printed where the
  * configuration asks, and that it was refused.
  */
-FSW_SELDOM void fsw_leave_telling(struct fsw_asked asked, uint32_t status);
+FSW_SELDOM CFE_Status_t fsw_leave_telling(struct fsw_asked asked, uint32_t status);
 
 /* Whether the configuration asks. */
 static inline bool fsw_tells_events(void)
@@ -194,12 +205,10 @@ static inline bool fsw_tells_events(void)
     return fsw_layer.config.sends_events || fsw_layer.config.prints_events;
 }
 
-static inline void fsw_leave_bus(struct fsw_asked asked, uint32_t status)
+static inline CFE_Status_t fsw_leave_bus(struct fsw_asked asked, uint32_t status)
 {
-    if (fsw_tells_events())
-        fsw_leave_telling(asked, status);
-    else
-        fsw_leave();
+    return fsw_tells_events() ? fsw_leave_telling(asked, status)
+                              : fsw_leave_with(status, CFE_SB_BAD_ARGUMENT);
 }
 
 /* Lets go what an application still has, before its end in the core; and its pipes, behind it. */

@@ -267,6 +267,7 @@ static bool open_layer(const struct fsw_limits *limits)
     memset(layer->handle, 0, sizeof layer->handle);
     memset(layer->bus_events, 0, sizeof layer->bus_events);
     layer->events_seen = 0;
+    layer->requests = 0;
     layer->asleep = NULL;
     layer->limits = *limits;
     layer->buffer = calloc((size_t)limits->apps * limits->buffers + 1, sizeof *layer->buffer);

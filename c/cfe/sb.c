@@ -1,5 +1,7 @@
 /* sb.c: the Software Bus in cFE's names. */
+#include "cfe_msgids.h"
 #include "cfe_sb_events.h"
+#include "cfe_sb_msg.h"
 #include "layer.h"
 
 #include <errno.h>
@@ -31,18 +33,15 @@ CFE_Status_t CFE_SB_CreatePipe(CFE_SB_PipeId_t *PipeIdPtr, uint16 Depth, const c
     if (!PipeIdPtr)
         return CFE_SB_BAD_ARGUMENT;
     *PipeIdPtr = CFE_SB_INVALID_PIPE;
-    if (!PipeName)
-        return CFE_SB_BAD_ARGUMENT;
-    struct app *app = fsw_enter();
-    if (!app)
+    const struct app *app;
+    if (!PipeName || !(app = fsw_enter()))
         return CFE_SB_BAD_ARGUMENT;
     uint32_t number = 0;
     uint32_t status =
         fsw_create_pipe(&fsw_layer.core, app->number, Depth, PipeName, strlen(PipeName), &number);
     if (status == FSW_SUCCESS)
         free_pipe()->number = *PipeIdPtr = number;
-    fsw_leave_bus((struct fsw_asked){"CreatePipe", CFE_SB_CR_PIPE_BAD_ARG_EID, 0}, status);
-    return fsw_status(status, CFE_SB_BAD_ARGUMENT);
+    return fsw_leave_bus((struct fsw_asked){"CreatePipe", CFE_SB_CR_PIPE_BAD_ARG_EID, 0}, status);
 }
 
 CFE_Status_t CFE_SB_DeletePipe(CFE_SB_PipeId_t PipeId)
@@ -56,8 +55,7 @@ CFE_Status_t CFE_SB_DeletePipe(CFE_SB_PipeId_t PipeId)
         pipe->number = 0;
         pthread_cond_broadcast(&pipe->arrived);
     }
-    fsw_leave();
-    return fsw_status(status, CFE_SB_BAD_ARGUMENT);
+    return fsw_leave_with(status, CFE_SB_BAD_ARGUMENT);
 }
 
 CFE_Status_t CFE_SB_SetPipeOpts(CFE_SB_PipeId_t PipeId, uint8 Opts)
@@ -66,8 +64,7 @@ CFE_Status_t CFE_SB_SetPipeOpts(CFE_SB_PipeId_t PipeId, uint8 Opts)
     if (!app)
         return CFE_SB_BAD_ARGUMENT;
     uint32_t status = fsw_set_options(&fsw_layer.core, app->number, PipeId, Opts);
-    fsw_leave();
-    return fsw_status(status, CFE_SB_BAD_ARGUMENT);
+    return fsw_leave_with(status, CFE_SB_BAD_ARGUMENT);
 }
 
 CFE_Status_t CFE_SB_GetPipeOpts(CFE_SB_PipeId_t PipeId, uint8 *OptsPtr)
@@ -75,8 +72,7 @@ CFE_Status_t CFE_SB_GetPipeOpts(CFE_SB_PipeId_t PipeId, uint8 *OptsPtr)
     if (!OptsPtr || !fsw_enter())
         return CFE_SB_BAD_ARGUMENT;
     uint32_t status = fsw_get_options(&fsw_layer.core, PipeId, OptsPtr);
-    fsw_leave();
-    return fsw_status(status, CFE_SB_BAD_ARGUMENT);
+    return fsw_leave_with(status, CFE_SB_BAD_ARGUMENT);
 }
 
 CFE_Status_t CFE_SB_GetPipeName(char *PipeNameBuf, size_t PipeNameSize, CFE_SB_PipeId_t PipeId)
@@ -101,8 +97,7 @@ CFE_Status_t CFE_SB_GetPipeIdByName(CFE_SB_PipeId_t *PipeIdPtr, const char *Pipe
         return CFE_SB_BAD_ARGUMENT;
     *PipeIdPtr = CFE_SB_INVALID_PIPE;
     uint32_t status = fsw_find_pipe(&fsw_layer.core, PipeName, strlen(PipeName), PipeIdPtr);
-    fsw_leave();
-    return fsw_status(status, CFE_SB_BAD_ARGUMENT);
+    return fsw_leave_with(status, CFE_SB_BAD_ARGUMENT);
 }
 
 void fsw_end_pipes(void)
@@ -117,17 +112,21 @@ void fsw_end_pipes(void)
 
 /* ---- Subscriptions ---- */
 
+/* An id of over 16 bits is as bad as 0. */
+static uint16_t core_id(CFE_SB_MsgId_t id)
+{
+    return id > UINT16_MAX ? 0 : (uint16_t)id;
+}
+
 static CFE_Status_t subscribe(CFE_SB_MsgId_t MsgId, CFE_SB_PipeId_t PipeId, uint16 limit,
                               uint32_t scope)
 {
     struct app *app = fsw_enter();
     if (!app)
         return CFE_SB_BAD_ARGUMENT;
-    /* An id of over 16 bits is as bad as 0. */
-    uint16_t id = MsgId > UINT16_MAX ? 0 : (uint16_t)MsgId;
-    uint32_t status = fsw_subscribe(&fsw_layer.core, app->number, id, PipeId, limit, scope);
-    fsw_leave_bus((struct fsw_asked){"Subscribe", CFE_SB_SUB_ARG_ERR_EID, MsgId}, status);
-    return fsw_status(status, CFE_SB_BAD_ARGUMENT);
+    uint32_t status =
+        fsw_subscribe(&fsw_layer.core, app->number, core_id(MsgId), PipeId, limit, scope);
+    return fsw_leave_bus((struct fsw_asked){"Subscribe", CFE_SB_SUB_ARG_ERR_EID, MsgId}, status);
 }
 
 CFE_Status_t CFE_SB_Subscribe(CFE_SB_MsgId_t MsgId, CFE_SB_PipeId_t PipeId)
@@ -152,10 +151,9 @@ CFE_Status_t CFE_SB_Unsubscribe(CFE_SB_MsgId_t MsgId, CFE_SB_PipeId_t PipeId)
     struct app *app = fsw_enter();
     if (!app)
         return CFE_SB_BAD_ARGUMENT;
-    uint16_t id = MsgId > UINT16_MAX ? 0 : (uint16_t)MsgId;
-    uint32_t status = fsw_unsubscribe(&fsw_layer.core, app->number, id, PipeId);
-    fsw_leave_bus((struct fsw_asked){"Unsubscribe", CFE_SB_UNSUB_ARG_ERR_EID, MsgId}, status);
-    return fsw_status(status, CFE_SB_BAD_ARGUMENT);
+    uint32_t status = fsw_unsubscribe(&fsw_layer.core, app->number, core_id(MsgId), PipeId);
+    return fsw_leave_bus((struct fsw_asked){"Unsubscribe", CFE_SB_UNSUB_ARG_ERR_EID, MsgId},
+                         status);
 }
 
 CFE_Status_t CFE_SB_UnsubscribeLocal(CFE_SB_MsgId_t MsgId, CFE_SB_PipeId_t PipeId)
@@ -187,37 +185,85 @@ static bool is_counted(const CFE_MSG_Message_t *message, bool is_asked)
     return is_asked && !(message->Byte[0] & 0x10);
 }
 
-FSW_SELDOM static void leave_send_telling(const CFE_MSG_Message_t *message, uint32_t status)
+/* Whether a message asks for the bus's housekeeping packet. */
+static inline bool is_request(const CFE_MSG_Message_t *message)
+{
+    return (message->Byte[0] << 8 | message->Byte[1]) == CFE_SB_SEND_HK_MID;
+}
+
+void fsw_send_own(const struct app *app, CFE_MSG_TelemetryHeader_t *packet, size_t size)
+{
+    struct fsw_sent sent;
+    CFE_SB_TimeStampMsg(&packet->Msg);
+    if (fsw_transmit(&fsw_layer.core, app->number, packet, size, true, &sent) == FSW_SUCCESS)
+        fsw_wake(&sent);
+}
+
+/* Answers the caller's request by the housekeeping packet. */
+FSW_SELDOM static void send_housekeeping(const struct fsw_sent *request)
+{
+    CFE_SB_HousekeepingTlm_t packet;
+    struct fsw_counters counts;
+    struct fsw_use now, peak;
+    /* In cFE the bus subscribes to it: that no pipe got it isn't counted, and is no event. */
+    if (request->number == 0) {
+        fsw_layer.requests++;
+        fsw_layer.events_seen++;
+    }
+    CFE_MSG_Init(CFE_MSG_PTR(packet.TelemetryHeader), CFE_SB_HK_TLM_MID, sizeof packet);
+    fsw_counters(&fsw_layer.core, &counts);
+    fsw_use(&fsw_layer.core, &now, &peak);
+    packet.Payload = (CFE_SB_HousekeepingTlm_Payload_t){
+        .NoSubscribersCounter = (uint8)(counts.nosub - fsw_layer.requests),
+        .MsgSendErrorCounter = (uint8)counts.send,
+        .MsgReceiveErrorCounter = (uint8)counts.recv,
+        .CreatePipeErrorCounter = (uint8)counts.create,
+        .SubscribeErrorCounter = (uint8)counts.sub,
+        .PipeOptsErrorCounter = (uint8)counts.opts,
+        .DuplicateSubscriptionsCounter = (uint8)counts.dup,
+        .GetPipeIdByNameErrorCounter = (uint8)counts.find,
+        .PipeOverflowErrorCounter = (uint16)counts.overflow,
+        .MsgLimitErrorCounter = (uint16)counts.limit,
+        .MemInUse = now.bytes,
+        .UnmarkedMem = fsw_layer.limits.pool - peak.bytes,
+    };
+    fsw_send_own(fsw_self->app, &packet.TelemetryHeader, sizeof packet);
+}
+
+FSW_SELDOM static CFE_Status_t leave_send_telling(const CFE_MSG_Message_t *message, uint32_t status)
 {
     struct fsw_asked asked = {"Transmit", CFE_SB_SEND_BAD_ARG_EID, 0};
     if (message)
         CFE_MSG_GetMsgId(message, &asked.id);
-    fsw_leave_telling(asked, status);
+    return fsw_leave_telling(asked, status);
 }
 
 /* Ends a send of this message; null if it can't be read. */
-static inline void leave_send(const CFE_MSG_Message_t *message, uint32_t status)
+static inline CFE_Status_t leave_send(const CFE_MSG_Message_t *message, uint32_t status)
 {
-    if (fsw_tells_events())
-        leave_send_telling(message, status);
-    else
-        fsw_leave();
+    return fsw_tells_events() ? leave_send_telling(message, status)
+                              : fsw_leave_with(status, CFE_SB_BAD_ARGUMENT);
+}
+
+/* Does what follows on an accepted send. */
+static inline void follow(const struct fsw_sent *sent, bool is_asking)
+{
+    if (is_asking)
+        send_housekeeping(sent);
+    fsw_wake(sent);
 }
 
 CFE_Status_t CFE_SB_TransmitMsg(const CFE_MSG_Message_t *MsgPtr, bool IncrementSequenceCount)
 {
+    const struct app *app;
     struct fsw_sent sent;
-    if (!MsgPtr)
-        return CFE_SB_BAD_ARGUMENT;
-    struct app *app = fsw_enter();
-    if (!app)
+    if (!MsgPtr || !(app = fsw_enter()))
         return CFE_SB_BAD_ARGUMENT;
     uint32_t status = fsw_transmit(&fsw_layer.core, app->number, MsgPtr, length_of(MsgPtr),
                                    is_counted(MsgPtr, IncrementSequenceCount), &sent);
     if (status == FSW_SUCCESS)
-        fsw_wake(&sent);
-    leave_send(MsgPtr, status);
-    return fsw_status(status, CFE_SB_BAD_ARGUMENT);
+        follow(&sent, is_request(MsgPtr));
+    return leave_send(MsgPtr, status);
 }
 
 /* ---- Receives ---- */
@@ -275,25 +321,21 @@ FSW_SELDOM static CFE_Status_t receive_later(CFE_SB_Buffer_t **BufPtr, CFE_SB_Pi
     struct fsw_message message = {NULL, 0, 0};
     if (status == FSW_SB_NO_MESSAGE && TimeOut != CFE_SB_POLL)
         status = wait_for_message(PipeId, TimeOut, &message);
-    if (status == FSW_SB_BAD_ARGUMENT)
-        fsw_leave_bus((struct fsw_asked){"ReceiveBuffer", CFE_SB_BAD_PIPEID_EID, 0}, status);
-    else
-        fsw_leave();
     if (status == FSW_SUCCESS)
         *BufPtr = (CFE_SB_Buffer_t *)(uintptr_t)message.at;
-    return fsw_status(status, CFE_SB_BAD_ARGUMENT);
+    if (status == FSW_SB_BAD_ARGUMENT)
+        return fsw_leave_bus((struct fsw_asked){"ReceiveBuffer", CFE_SB_BAD_PIPEID_EID, 0}, status);
+    return fsw_leave_with(status, CFE_SB_BAD_ARGUMENT);
 }
 
 CFE_Status_t CFE_SB_ReceiveBuffer(CFE_SB_Buffer_t **BufPtr, CFE_SB_PipeId_t PipeId, int32 TimeOut)
 {
+    const struct app *app;
     struct fsw_message message;
     if (!BufPtr)
         return CFE_SB_BAD_ARGUMENT;
     *BufPtr = NULL;
-    if (TimeOut < CFE_SB_PEND_FOREVER)
-        return CFE_SB_BAD_ARGUMENT;
-    struct app *app = fsw_enter();
-    if (!app)
+    if (TimeOut < CFE_SB_PEND_FOREVER || !(app = fsw_enter()))
         return CFE_SB_BAD_ARGUMENT;
     uint32_t status = fsw_receive(&fsw_layer.core, app->number, PipeId, &message);
     if (status != FSW_SUCCESS)
@@ -305,6 +347,9 @@ CFE_Status_t CFE_SB_ReceiveBuffer(CFE_SB_Buffer_t **BufPtr, CFE_SB_PipeId_t Pipe
 }
 
 /* ---- Buffers ---- */
+
+/* What the core is given for what is no buffer: it refuses and counts that, and leaves it empty. */
+static struct fsw_buffer no_buffer;
 
 /* The application's buffer whose first byte this is; with null, its first empty place; or null. */
 static struct fsw_buffer *buffer_at(const struct app *app, const void *at)
@@ -333,37 +378,30 @@ CFE_SB_Buffer_t *CFE_SB_AllocateMessageBuffer(size_t MsgSize)
 
 CFE_Status_t CFE_SB_TransmitBuffer(CFE_SB_Buffer_t *BufPtr, bool IncrementSequenceCount)
 {
-    struct fsw_buffer none = {NULL, 0, 0, 0};
+    const struct app *app;
     struct fsw_sent sent;
-    if (!BufPtr)
+    if (!BufPtr || !(app = fsw_enter()))
         return CFE_SB_BAD_ARGUMENT;
-    struct app *app = fsw_enter();
-    if (!app)
-        return CFE_SB_BAD_ARGUMENT;
-    /* The core counts a refusal, also of what is no buffer. */
     struct fsw_buffer *buffer = buffer_at(app, BufPtr);
     bool counts = buffer && is_counted(&BufPtr->Msg, IncrementSequenceCount);
-    uint32_t status =
-        fsw_transmit_buffer(&fsw_layer.core, app->number, buffer ? buffer : &none, counts, &sent);
+    bool is_asking = buffer && is_request(&BufPtr->Msg);
+    uint32_t status = fsw_transmit_buffer(&fsw_layer.core, app->number,
+                                          buffer ? buffer : &no_buffer, counts, &sent);
     if (status == FSW_SUCCESS)
-        fsw_wake(&sent);
+        follow(&sent, is_asking);
     /* What was sent is the bus's. */
-    leave_send(status != FSW_SUCCESS && buffer ? &BufPtr->Msg : NULL, status);
-    return fsw_status(status, CFE_SB_BAD_ARGUMENT);
+    return leave_send(status != FSW_SUCCESS && buffer ? &BufPtr->Msg : NULL, status);
 }
 
 CFE_Status_t CFE_SB_ReleaseMessageBuffer(CFE_SB_Buffer_t *BufPtr)
 {
-    struct fsw_buffer none = {NULL, 0, 0, 0};
-    if (!BufPtr)
-        return CFE_SB_BAD_ARGUMENT;
-    struct app *app = fsw_enter();
-    if (!app)
+    const struct app *app;
+    if (!BufPtr || !(app = fsw_enter()))
         return CFE_SB_BAD_ARGUMENT;
     struct fsw_buffer *buffer = buffer_at(app, BufPtr);
-    uint32_t status = fsw_release_buffer(&fsw_layer.core, app->number, buffer ? buffer : &none);
-    fsw_leave();
-    return fsw_status(status, CFE_SB_BAD_ARGUMENT);
+    uint32_t status =
+        fsw_release_buffer(&fsw_layer.core, app->number, buffer ? buffer : &no_buffer);
+    return fsw_leave_with(status, CFE_SB_BAD_ARGUMENT);
 }
 
 void fsw_end_buffers(struct app *app)

@@ -46,6 +46,13 @@ static struct core_name core_name_of(const struct table *table)
     return name;
 }
 
+/* Shares a table that is there: a handle of the application's in the core. */
+static uint32_t share_table(const struct app *app, const struct table *table, uint32_t *number)
+{
+    struct core_name known = core_name_of(table);
+    return fsw_table_share(&fsw_layer.core, app->number, known.text, strlen(known.text), number);
+}
+
 /* A handle of an application; one that is none has the number 0, which the core refuses. */
 static struct handle *handle_at(CFE_TBL_Handle_t handle)
 {
@@ -162,8 +169,7 @@ CFE_Status_t CFE_TBL_Register(CFE_TBL_Handle_t *TblHandlePtr, const char *Name, 
         return CFE_ES_ERR_RESOURCEID_NOT_VALID;
     uint32_t status =
         register_table(app, Name, Size, TblOptionFlags, TblValidationFuncPtr, TblHandlePtr);
-    fsw_leave();
-    return fsw_status(status, CFE_TBL_BAD_ARGUMENT);
+    return fsw_leave_with(status, CFE_TBL_BAD_ARGUMENT);
 }
 
 CFE_Status_t CFE_TBL_Share(CFE_TBL_Handle_t *TblHandlePtr, const char *TblName)
@@ -176,15 +182,11 @@ CFE_Status_t CFE_TBL_Share(CFE_TBL_Handle_t *TblHandlePtr, const char *TblName)
     if (!app)
         return CFE_ES_ERR_RESOURCEID_NOT_VALID;
     struct table *table = table_named(TblName);
-    if (table) {
-        struct core_name known = core_name_of(table);
-        status =
-            fsw_table_share(&fsw_layer.core, app->number, known.text, strlen(known.text), &number);
-    }
+    if (table)
+        status = share_table(app, table, &number);
     if (status == FSW_SUCCESS)
         *TblHandlePtr = add_handle(app, table, number);
-    fsw_leave();
-    return fsw_status(status, CFE_TBL_BAD_ARGUMENT);
+    return fsw_leave_with(status, CFE_TBL_BAD_ARGUMENT);
 }
 
 CFE_Status_t CFE_TBL_Unregister(CFE_TBL_Handle_t TblHandle)
@@ -196,8 +198,7 @@ CFE_Status_t CFE_TBL_Unregister(CFE_TBL_Handle_t TblHandle)
     uint32_t status = fsw_table_unregister(&fsw_layer.core, app->number, handle->number);
     if (status == FSW_SUCCESS)
         drop_handle(handle);
-    fsw_leave();
-    return fsw_status(status, CFE_TBL_BAD_ARGUMENT);
+    return fsw_leave_with(status, CFE_TBL_BAD_ARGUMENT);
 }
 
 /* ---- Files ---- */
@@ -251,21 +252,30 @@ struct load {
     uint32_t number;
 };
 
+/* Whether a value is staged for the table of a handle, if its application may ask. */
+static uint32_t find_staged(const struct app *app, uint32_t number, bool *is_there)
+{
+    struct fsw_bytes staged;
+    uint32_t status = fsw_table_staged(&fsw_layer.core, app->number, number, &staged);
+    *is_there = status == FSW_SUCCESS;
+    return status == FSW_TBL_INFO_NO_LOAD ? FSW_SUCCESS : status;
+}
+
 /* Begins what only one task does with a table at a time. `is_staged`: whether a value must be. */
 static uint32_t begin_load(struct app *app, CFE_TBL_Handle_t TblHandle, bool is_staged,
                            struct load *load)
 {
     struct handle *handle = handle_at(TblHandle);
-    struct fsw_bytes staged;
+    bool is_there;
     *load = (struct load){app, handle->table, handle->number};
-    uint32_t status = fsw_table_staged(&fsw_layer.core, app->number, load->number, &staged);
-    if (status != FSW_SUCCESS && status != FSW_TBL_INFO_NO_LOAD)
+    uint32_t status = find_staged(app, load->number, &is_there);
+    if (status != FSW_SUCCESS)
         return status;
     if (!is_staged && load->table->info.DumpOnly)
         return FSW_TBL_ERR_DUMP_ONLY;
-    if (load->table->loader || (!is_staged && status == FSW_SUCCESS))
+    if (load->table->loader || (!is_staged && is_there))
         return FSW_TBL_ERR_LOAD_IN_PROGRESS;
-    if (is_staged && (status != FSW_SUCCESS || load->table->pending != VALIDATION_PENDING))
+    if (is_staged && (!is_there || load->table->pending != VALIDATION_PENDING))
         return FSW_TBL_INFO_NO_LOAD;
     load->table->loader = load->number;
     load->table->loading = fsw_self;
@@ -397,8 +407,7 @@ CFE_Status_t CFE_TBL_Load(CFE_TBL_Handle_t TblHandle, CFE_TBL_SrcEnum_t SrcType,
             status = (uint32_t)CFE_TBL_ERR_ILLEGAL_SRC_TYPE;
         end_load(load.table);
     }
-    fsw_leave();
-    return fsw_status(status, CFE_TBL_BAD_ARGUMENT);
+    return fsw_leave_with(status, CFE_TBL_BAD_ARGUMENT);
 }
 
 /* ---- What fsw_stage_table staged ---- */
@@ -406,12 +415,10 @@ CFE_Status_t CFE_TBL_Load(CFE_TBL_Handle_t TblHandle, CFE_TBL_SrcEnum_t SrcType,
 /* Stages by a handle of the caller's own, which it gives back then. */
 static uint32_t stage_for(struct app *app, struct table *table, const struct fsw_image *image)
 {
-    struct core_name known = core_name_of(table);
     struct load load = {app, table, 0};
     if (table->loader)
         return FSW_TBL_ERR_LOAD_IN_PROGRESS;
-    uint32_t status =
-        fsw_table_share(&fsw_layer.core, app->number, known.text, strlen(known.text), &load.number);
+    uint32_t status = share_table(app, table, &load.number);
     if (status != FSW_SUCCESS)
         return status;
     status = stage(load, image);
@@ -469,20 +476,18 @@ CFE_Status_t CFE_TBL_Validate(CFE_TBL_Handle_t TblHandle)
         load.table->pending = status == FSW_SUCCESS ? UPDATE_PENDING : NOTHING_PENDING;
         end_load(load.table);
     }
-    fsw_leave();
-    return fsw_status(status, CFE_TBL_BAD_ARGUMENT);
+    return fsw_leave_with(status, CFE_TBL_BAD_ARGUMENT);
 }
 
 /* What the table of a handle waits for, if the caller may ask. */
 static uint32_t pending_of(const struct app *app, const struct handle *handle,
                            enum pending *pending)
 {
-    struct fsw_bytes staged;
-    uint32_t status = fsw_table_staged(&fsw_layer.core, app->number, handle->number, &staged);
-    if (status != FSW_SUCCESS && status != FSW_TBL_INFO_NO_LOAD)
-        return status;
-    *pending = handle->table->pending;
-    return FSW_SUCCESS;
+    bool is_there;
+    uint32_t status = find_staged(app, handle->number, &is_there);
+    if (status == FSW_SUCCESS)
+        *pending = handle->table->pending;
+    return status;
 }
 
 CFE_Status_t CFE_TBL_Update(CFE_TBL_Handle_t TblHandle)
@@ -496,8 +501,7 @@ CFE_Status_t CFE_TBL_Update(CFE_TBL_Handle_t TblHandle)
     if (status == FSW_SUCCESS)
         status = pending == UPDATE_PENDING ? update(app, handle->table, handle->number)
                                            : FSW_TBL_INFO_NO_UPDATE_PENDING;
-    fsw_leave();
-    return fsw_status(status, CFE_TBL_BAD_ARGUMENT);
+    return fsw_leave_with(status, CFE_TBL_BAD_ARGUMENT);
 }
 
 CFE_Status_t CFE_TBL_GetStatus(CFE_TBL_Handle_t TblHandle)
@@ -550,22 +554,23 @@ CFE_Status_t CFE_TBL_ReleaseAddress(CFE_TBL_Handle_t TblHandle)
         return CFE_ES_ERR_RESOURCEID_NOT_VALID;
     uint32_t status =
         fsw_table_release_address(&fsw_layer.core, app->number, handle_at(TblHandle)->number);
-    fsw_leave();
-    return fsw_status(status, CFE_TBL_BAD_ARGUMENT);
+    return fsw_leave_with(status, CFE_TBL_BAD_ARGUMENT);
 }
 
 /* As in cFE, the first status that isn't success is the answer of the next two. */
+static CFE_Status_t first_of(CFE_Status_t first, CFE_Status_t next)
+{
+    return first == CFE_SUCCESS ? next : first;
+}
+
 CFE_Status_t CFE_TBL_GetAddresses(void **TblPtrs[], uint16 NumTables,
                                   const CFE_TBL_Handle_t TblHandles[])
 {
     CFE_Status_t first = CFE_SUCCESS;
     if (!TblPtrs || !TblHandles)
         return CFE_TBL_BAD_ARGUMENT;
-    for (uint16 i = 0; i < NumTables; i++) {
-        CFE_Status_t status = CFE_TBL_GetAddress(TblPtrs[i], TblHandles[i]);
-        if (first == CFE_SUCCESS)
-            first = status;
-    }
+    for (uint16 i = 0; i < NumTables; i++)
+        first = first_of(first, CFE_TBL_GetAddress(TblPtrs[i], TblHandles[i]));
     return first;
 }
 
@@ -574,11 +579,8 @@ CFE_Status_t CFE_TBL_ReleaseAddresses(uint16 NumTables, const CFE_TBL_Handle_t T
     CFE_Status_t first = CFE_SUCCESS;
     if (!TblHandles)
         return CFE_TBL_BAD_ARGUMENT;
-    for (uint16 i = 0; i < NumTables; i++) {
-        CFE_Status_t status = CFE_TBL_ReleaseAddress(TblHandles[i]);
-        if (first == CFE_SUCCESS)
-            first = status;
-    }
+    for (uint16 i = 0; i < NumTables; i++)
+        first = first_of(first, CFE_TBL_ReleaseAddress(TblHandles[i]));
     return first;
 }
 

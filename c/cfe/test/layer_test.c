@@ -6,6 +6,7 @@
  */
 #include "cfe_msgids.h"
 #include "cfe_sb_events.h"
+#include "cfe_sb_msg.h"
 #include "check.h"
 #include "layer.h"
 
@@ -323,6 +324,81 @@ static void test_bus(void)
     check_pipes();
     check_messages();
     check_buffers();
+}
+
+/* ---- Housekeeping ---- */
+
+/* Each counter gets a number of its own. */
+static void count_some(CFE_SB_PipeId_t pipe)
+{
+    CFE_SB_PipeId_t none, full;
+    CFE_SB_Buffer_t *buffer;
+    tlm_t bad = tlm_of(TLM_ID, 0);
+    bad.header.Msg.Byte[0] = 0xff;
+    CHECK_STATUS(CFE_SB_CreatePipe(&full, 1, "FULL"), CFE_SUCCESS);
+    CHECK_STATUS(CFE_SB_SubscribeEx(TLM_ID, full, CFE_SB_DEFAULT_QOS, 64), CFE_SUCCESS);
+    CHECK_STATUS(CFE_SB_SubscribeEx(OTHER_ID, pipe, CFE_SB_DEFAULT_QOS, 1), CFE_SUCCESS);
+    for (uint32 i = 0; i < 11; i++) {
+        CHECK_STATUS(i < 2 ? send(0x1234, i) : CFE_SUCCESS, CFE_SUCCESS);
+        CHECK_STATUS(i < 3 ? CFE_SB_TransmitMsg(CFE_MSG_PTR(bad.header), true)
+                           : CFE_SB_BAD_ARGUMENT,
+                     CFE_SB_BAD_ARGUMENT);
+        CHECK_STATUS(i < 4 ? CFE_SB_ReceiveBuffer(&buffer, 99, CFE_SB_POLL) : CFE_SB_BAD_ARGUMENT,
+                     CFE_SB_BAD_ARGUMENT);
+        CHECK_STATUS(i < 5 ? CFE_SB_CreatePipe(&none, 0, "NONE") : CFE_SB_BAD_ARGUMENT,
+                     CFE_SB_BAD_ARGUMENT);
+        CHECK_STATUS(i < 6 ? CFE_SB_Subscribe(0, pipe) : CFE_SB_BAD_ARGUMENT, CFE_SB_BAD_ARGUMENT);
+        CHECK_STATUS(i < 7 ? CFE_SB_SetPipeOpts(99, 0) : CFE_SB_BAD_ARGUMENT, CFE_SB_BAD_ARGUMENT);
+        CHECK_STATUS(i < 8 ? CFE_SB_Subscribe(OTHER_ID, pipe) : CFE_SUCCESS, CFE_SUCCESS);
+        CHECK_STATUS(i < 9 ? CFE_SB_GetPipeIdByName(&none, "NONE") : CFE_SB_BAD_ARGUMENT,
+                     CFE_SB_BAD_ARGUMENT);
+        CHECK_STATUS(send(OTHER_ID, i), CFE_SUCCESS);
+        CHECK_STATUS(send(TLM_ID, i), CFE_SUCCESS);
+    }
+    CHECK_STATUS(send(TLM_ID, 11), CFE_SUCCESS);
+}
+
+static void check_counters(const CFE_SB_HousekeepingTlm_Payload_t *counted)
+{
+    CHECK(counted->NoSubscribersCounter == 2 && counted->MsgSendErrorCounter == 3);
+    CHECK(counted->MsgReceiveErrorCounter == 4 && counted->CreatePipeErrorCounter == 5);
+    CHECK(counted->SubscribeErrorCounter == 6 && counted->PipeOptsErrorCounter == 7);
+    CHECK(counted->DuplicateSubscriptionsCounter == 8 && counted->GetPipeIdByNameErrorCounter == 9);
+    CHECK(counted->MsgLimitErrorCounter == 10 && counted->PipeOverflowErrorCounter == 11);
+    CHECK(counted->CommandCounter == 0 && counted->CommandErrorCounter == 0);
+    CHECK(counted->MemInUse > 0 && counted->MemInUse % 8 == 0);
+    CHECK(counted->UnmarkedMem > 0 && counted->UnmarkedMem < 524288 - counted->MemInUse);
+}
+
+/* A request is answered, as a message and as a buffer, and is neither counted nor an event. */
+static void test_housekeeping(void)
+{
+    CFE_SB_HousekeepingTlm_t tlm;
+    CFE_SB_Buffer_t *buffer, *request;
+    CFE_SB_PipeId_t events, pipe = pipe_for("HK", CFE_SB_HK_TLM_MID);
+    cmd_t cmd;
+    CHECK_STATUS(CFE_SB_CreatePipe(&events, 64, "EVENTS"), CFE_SUCCESS);
+    CHECK_STATUS(CFE_SB_SubscribeEx(CFE_EVS_LONG_EVENT_MSG_MID, events, CFE_SB_DEFAULT_QOS, 64),
+                 CFE_SUCCESS);
+    count_some(pipe);
+    while (CFE_SB_ReceiveBuffer(&buffer, events, CFE_SB_POLL) == CFE_SUCCESS)
+        ;
+    CHECK_STATUS(CFE_SB_ReceiveBuffer(&buffer, pipe, CFE_SB_POLL), CFE_SUCCESS);
+    CHECK_STATUS(CFE_MSG_Init(CFE_MSG_PTR(cmd.header), CFE_SB_SEND_HK_MID, sizeof cmd.header),
+                 CFE_SUCCESS);
+    CHECK_STATUS(CFE_SB_TransmitMsg(CFE_MSG_PTR(cmd.header), true), CFE_SUCCESS);
+    request = CFE_SB_AllocateMessageBuffer(sizeof cmd.header);
+    CHECK(request);
+    memcpy(request, &cmd.header, sizeof cmd.header);
+    CHECK_STATUS(CFE_SB_TransmitBuffer(request, true), CFE_SUCCESS);
+    for (uint32 i = 1; i <= 2; i++) {
+        CHECK_STATUS(CFE_SB_ReceiveBuffer(&buffer, pipe, CFE_SB_POLL), CFE_SUCCESS);
+        memcpy(&tlm, buffer, sizeof tlm);
+        CHECK(CFE_SB_GetUserDataLength(&buffer->Msg) == sizeof tlm.Payload);
+        CHECK(count_in(buffer) == i);
+        check_counters(&tlm.Payload);
+    }
+    CHECK_STATUS(CFE_SB_ReceiveBuffer(&buffer, events, CFE_SB_POLL), CFE_SB_NO_MESSAGE);
 }
 
 /* ---- Waits ---- */
@@ -1127,6 +1203,7 @@ int main(int argc, char **argv)
     check_refused_runs();
     run("messages", test_messages, NULL, 0);
     run("bus", test_bus, NULL, 0);
+    run("housekeeping", test_housekeeping, NULL, 0);
     run("waits", test_waits, answer_waits, 0);
     run("tasks", test_tasks, NULL, 0);
     run("pools", test_pools, take_blocks, 0);

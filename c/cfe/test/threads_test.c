@@ -6,6 +6,7 @@
  *     threads_test SECONDS FOLDER      table files are written there
  */
 #include "cfe.h"
+#include "cfe_msgids.h"
 #include "check.h"
 #include "fsw_run.h"
 
@@ -89,9 +90,18 @@ static void write_tlm(struct mine *mine, struct tlm *tlm)
     CFE_SB_TimeStampMsg(CFE_MSG_PTR(tlm->header));
 }
 
+static void ask_for_housekeeping(void)
+{
+    CFE_MSG_CommandHeader_t request;
+    CFE_MSG_Init(CFE_MSG_PTR(request), CFE_SB_SEND_HK_MID, sizeof request);
+    CHECK_STATUS(CFE_SB_TransmitMsg(CFE_MSG_PTR(request), false), CFE_SUCCESS);
+}
+
 static void send(struct mine *mine)
 {
     struct tlm tlm;
+    if (draw(mine, 16) == 0)
+        ask_for_housekeeping();
     write_tlm(mine, &tlm);
     CHECK_STATUS(CFE_SB_TransmitMsg(CFE_MSG_PTR(tlm.header), draw(mine, 2)), CFE_SUCCESS);
     atomic_fetch_add(&sends, 1);
