@@ -6,6 +6,10 @@ use Rattle.text_page.proofs.PieceTexts.{grew_then}
 use Rattle.host_run.specs.Serve.{both_shown, part_shown, side_shown}
 use Rattle.host_run.specs.declared.reporting.Part.TheVariants.{Whole}
 
+-- both texts
+pub grew_both : (a b c : Option (List ℕ)) (s t : List ℕ) → Grew a b s → Grew b c t → Grew a c (s ++ t)
+grew_both a b c s t first second = grew_then a {b} {c} s t first second
+
 -- a front of the first text is one of both
 pub cut_first : (a b : Option (List ℕ)) (s t : List ℕ) → CutShort a b s → CutShort a b (s ++ t)
 cut_first a b s t cut = record {
@@ -21,7 +25,7 @@ cut_second a b c s t grew cut = record {
   sent = s ++ cut.sent;
   left = cut.left;
   whole = ap (λ l. s ++ l) cut.whole ∙ sym (append_assoc s cut.sent cut.left);
-  bytes = grew_then a s cut.sent grew cut.bytes;
+  bytes = grew_both a b c s cut.sent grew cut.bytes;
 }
 
 -- what holds anyway holds of a failure

@@ -1,10 +1,9 @@
 use Rattle.std.proofs.Common.{◌++◌, subst, sym}
 use Rattle.std.proofs.lemmas.Result.{on_err_weaker, on_ok_weaker}
 use Rattle.text_page.specs.Pieces.{CutShort, Grew}
-use Rattle.text_page.proofs.PieceTexts.{grew_then}
 use Rattle.host_run.specs.Serve.{part_shown}
 use Rattle.host_run.specs.declared.reporting.Part.TheVariants.{Whole}
-use Rattle.host_run.proofs.TwoTexts.{cut_first, cut_second, on_err_any, side_is}
+use Rattle.host_run.proofs.TwoTexts.{cut_first, cut_second, grew_both, on_err_any, side_is}
 use Rattle.host_run.proofs.reporting.write_side.Goals as goal
 
 pub returns-in_err-write_text-clause-err : goal.returns-in_err-write_text-clause-err
@@ -22,7 +21,7 @@ returns-clause-ok g c =
     on_ok_weaker c.write_part.result
     (λ grew. subst (Grew old new) (sym (side_is c.args.line.now side))
     (subst (λ l. Grew old new (c.args.line.now ++ part_shown Whole side.bus side.tables l)) c.as_slice-receipts.ensures.value
-    (grew_then old c.args.line.now (part_shown Whole side.bus side.tables c.as_slice-receipts.result.now) c.in_ok-write_text.ensures.ok grew)))
+    (grew_both old c.write_text.new.sink.written new c.args.line.now (part_shown Whole side.bus side.tables c.as_slice-receipts.result.now) c.in_ok-write_text.ensures.ok grew)))
     c.write_part.ensures.ok
 
 pub returns-clause-err : goal.returns-clause-err
