@@ -8,7 +8,7 @@ use Rattle.host_run.specs.declared.reporting.Part.TheVariants.{Whole}
 
 -- both texts
 pub grew_both : (a b c : Option (List ℕ)) (s t : List ℕ) → Grew a b s → Grew b c t → Grew a c (s ++ t)
-grew_both a b c s t first second = grew_then a {b} {c} s t first second
+grew_both a b c s t first second = grew_then a {b = b} {c = c} s t first second
 
 -- a front of the first text is one of both
 pub cut_first : (a b : Option (List ℕ)) (s t : List ℕ) → CutShort a b s → CutShort a b (s ++ t)
