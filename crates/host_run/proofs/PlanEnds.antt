@@ -19,7 +19,7 @@ use Rattle.host_run.specs.Audit.{GuardedAudit, IsShown}
 use Rattle.host_run.specs.Bridging.{AreShown, both_reports, most_plan, side_report}
 use Rattle.host_run.specs.Checking.{missing_text}
 use Rattle.host_run.specs.Input.{IsWhole}
-use Rattle.host_run.specs.Serve.{Bridges, CompletesPlan, CompletesUnread, EndsBoth, EndsNoPlan, EndsPlan, EndsPlanInput, EndsRefused, EndsText, Fed, HasCauses, HeadlineOnBridge, IsPlanRead, Made, MakesNothing, NoRoom, Read, ReportsPair, ReportsPairFront, ReportsPlan, ReportsPlanFront, SourceFailed, Tells, TellsFront, TooLong, both_shown, part_shown, too_large}
+use Rattle.host_run.specs.Serve.{Bridges, CompletesPlan, CompletesUnread, EndsBoth, EndsNoPlan, EndsPlan, EndsPlanInput, EndsRefused, EndsText, Fed, HasCauses, HeadlineOnBridge, IsPlanRead, Made, MakesNothing, NoRoom, Read, ReportsPair, ReportsPairFront, ReportsPlan, ReportsPlanFront, SourceFailed, Tells, TellsFront, TooLong, both_shown, part_shown, side_shown, too_large}
 use Rattle.host_run.specs.Status.{IsNoMemory}
 use Rattle.host_run.specs.declared.memory.MemoryRefusal.{MemoryRefusal}
 use Rattle.host_run.specs.declared.reporting.Part.TheVariants.{Whole}
@@ -27,6 +27,7 @@ use Rattle.host_run.specs.declared.status.HostStatus.{HostStatus}
 use Rattle.host_run.specs.declared.status.HostStatus.TheVariants.{Done, MissingPart, NoMemory}
 use Rattle.host_run.proofs.Ends.{causes-ends, causes-none, causes-refused, causes-text, ends-map, large-long, reported-whole, wanted-ends, whole-told}
 use Rattle.host_run.proofs.Sizes.{length-plan}
+use Rattle.host_run.proofs.TwoTexts.{both_are, side_is}
 
 -- Causes. --
 
@@ -126,6 +127,7 @@ shown-both old mid new one two (inr first) (inr second) = inr second
 
 side-run : (plan : PlanText) (side : ℕ) (left : Finished) → LeavesSide plan side left →
     part_shown Whole left.bus left.tables left.receipts.items ≡ side_report plan side (histories_of left.bus left.tables)
+unfolding side_report
 side-run plan side left leaves =
     let script = script_of plan side in
     reported-whole script.limits (side_apps script) (map (receipts_told (whole_on plan side) (histories_of left.bus left.tables)) (range_with_len 1 (length script.apps))) left.bus left.tables left.receipts.items
@@ -135,9 +137,11 @@ side-run plan side left leaves =
 pub both-run : (plan : PlanText) (one two : Finished) → LeavesSide plan 1 one → LeavesSide plan 2 two →
     both_shown one two ≡ both_reports plan (histories_of one.bus one.tables) (histories_of two.bus two.tables)
 both-run plan one two on_one on_two =
-    let first = side-run plan 1 one on_one in
-    let second = side-run plan 2 two on_two in
-    λ i. (codes "side 1\n" ++ first i) ++ (codes "side 2\n" ++ second i)
+    let first = side_is (codes "side 1\n") one ∙ ap (λ l. codes "side 1\n" ++ l) (side-run plan 1 one on_one) in
+    let second = side_is (codes "side 2\n") two ∙ ap (λ l. codes "side 2\n" ++ l) (side-run plan 2 two on_two) in
+    both_are one two
+    ∙ ap (λ l. l ++ side_shown (codes "side 2\n") two) first
+    ∙ ap (λ l. (codes "side 1\n" ++ side_report plan 1 (histories_of one.bus one.tables)) ++ l) second
 
 -- where what a run left is shown and its text is due of the plan, the plan ended so
 pub ends-plan : (result : HostStatus) (plan : PlanText) (one two : Histories) (text : List ℕ) (old new : Made) → IsBridged plan one two → text ≡ both_reports plan one two →

@@ -17,7 +17,7 @@ most_plan = 2097152
 -- The report of a side's histories: with what each application of its script tells of what it
 -- received and held, and with the figures of both services after them, to which the bridge is one
 -- application more. The bridge tells nothing.
-abbrev pub side_report : PlanText → ℕ → Histories → List ℕ
+unfoldable pub side_report : PlanText → ℕ → Histories → List ℕ
 side_report plan side histories =
     let script = script_of plan side in
     report_text histories.bus histories.tables

@@ -94,11 +94,11 @@ part_shown part bus tables lists =
     (table_figures_shown tables.limits (table_apps_of tables) tables.log.entries)
 
 -- a line, and the whole report of what a side of a bridge left
-abbrev pub side_shown : List ℕ → Finished → List ℕ
+unfoldable pub side_shown : List ℕ → Finished → List ℕ
 side_shown line side = line ++ part_shown Whole side.bus side.tables side.receipts.items
 
 -- that of both sides, each behind a line with its side
-abbrev pub both_shown : Finished → Finished → List ℕ
+unfoldable pub both_shown : Finished → Finished → List ℕ
 both_shown one two = side_shown (codes "side 1\n") one ++ side_shown (codes "side 2\n") two
 
 -- A source: the input left, where it is told, and the count of its faults.
