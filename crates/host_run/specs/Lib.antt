@@ -1,5 +1,4 @@
 pub mod Audit
-pub mod Bridging
 pub mod Checking
 pub mod Copies
 pub mod Images

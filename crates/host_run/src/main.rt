@@ -4,9 +4,6 @@
 #![tactic(auto)]
 
 mod audit;
-#[cfg(test)]
-mod bridge_tests;
-mod bridging;
 mod checking;
 mod fault_line;
 #[cfg(test)]
