@@ -1,5 +1,6 @@
 //! The word `bridge`: two buses and a bridge between them.
 ghost use Rattle.std.specs.Prelude.{◌≡◌, false, true, Ok, IfOk, IfErr};
+ghost use Rattle.app_run.specs.Openings.{HaveRoom};
 ghost use Rattle.app_run.specs.Runners.{histories_of};
 ghost use Rattle.bridge_plan.specs.Grammar.{plan_of};
 ghost use Rattle.host_run.specs.Audit.{GuardedAudit};
@@ -13,6 +14,7 @@ use crate::reading::{Reading, read_all};
 use crate::reporting::write_both;
 use crate::serve::ByThreads;
 use crate::status::HostStatus;
+use app_run::Regions;
 use bridge_plan::{BridgePlan, MAX_PLAN_BYTES, PlanFault};
 use fsw_base::{Gate, Sink, SinkGuard, Source, SourceGuard, WriteFault};
 use sb_bridge::Bridged;
@@ -121,7 +123,9 @@ fn refuse_plan<K: Sink>(sink: &mut SinkGuard<'_, K>, fault: PlanFault) -> HostSt
     }
 }
 
-// Runs the plan, shows the services of both sides to the audit, and writes both reports.
+// Runs the plan, shows the services of both sides to the audit, and writes both reports. Side 1's
+// memory is taken here, side 2's below: the borrow checker's part of the proof has one of them in a
+// function.
 fn serve_plan<R: Threads + Wait + Sync, G: Gate, K: Sink, A: Audit>(
     threads: &ByThreads<'_, R, G>,
     mut memory: Memory,
@@ -141,11 +145,57 @@ fn serve_plan<R: Threads + Wait + Sync, G: Gate, K: Sink, A: Audit>(
     let Some(mut one) = memory.regions(plan.script(1).config()) else {
         return HostStatus::NoMemory(memory.refusal());
     };
+    serve_beside(threads, memory, plan, &mut one, sink, audit)
+}
+
+// The same, where side 1 has its memory.
+fn serve_beside<R: Threads + Wait + Sync, G: Gate, K: Sink, A: Audit>(
+    threads: &ByThreads<'_, R, G>,
+    mut memory: Memory,
+    plan: &BridgePlan,
+    one: &mut Regions,
+    sink: &mut SinkGuard<'_, K>,
+    audit: &mut AuditGuard<'_, A>,
+) -> HostStatus
+    requires room { HaveRoom one.old plan.now.one.limits }
+    requires none_failed { sink.old.failed ≡ false }
+    requires untouched { sink.old.untouched ≡ true }
+    ensures end { EndsPlan result plan.now (made_through sink.old audit.old)
+        (made_through sink.new audit.new) }
+    ensures failed { sink.new.failed ≡ is_write_fault result }
+    ensures no_read_fault { is_read_fault result ≡ false }
+    ensures same_sink { sink.new.sink ≡ sink.old.sink }
+    ensures same_audit { audit.new.audit ≡ audit.old.audit }
+{
     let Some(mut two) = memory.regions(plan.script(2).config()) else {
         return HostStatus::NoMemory(memory.refusal());
     };
-    match memory.run_bridge(threads.rt, plan, &mut one, &mut two, threads.gate) {
-        Ok(bridged) => tell_both(&bridged, sink, audit),
+    serve_in(threads, memory, plan, one, &mut two, sink, audit)
+}
+
+// The same, where both sides have theirs.
+fn serve_in<R: Threads + Wait + Sync, G: Gate, K: Sink, A: Audit>(
+    threads: &ByThreads<'_, R, G>,
+    memory: Memory,
+    plan: &BridgePlan,
+    one: &mut Regions,
+    two: &mut Regions,
+    sink: &mut SinkGuard<'_, K>,
+    audit: &mut AuditGuard<'_, A>,
+) -> HostStatus
+    requires room { HaveRoom one.old plan.now.one.limits }
+    requires room_beside { HaveRoom two.old plan.now.two.limits }
+    requires none_failed { sink.old.failed ≡ false }
+    requires untouched { sink.old.untouched ≡ true }
+    ensures end { EndsPlan result plan.now (made_through sink.old audit.old)
+        (made_through sink.new audit.new) }
+    ensures failed { sink.new.failed ≡ is_write_fault result }
+    ensures no_read_fault { is_read_fault result ≡ false }
+    ensures same_sink { sink.new.sink ≡ sink.old.sink }
+    ensures same_audit { audit.new.audit ≡ audit.old.audit }
+{
+    match memory.run_bridge(threads.rt, plan, one, two, threads.gate) {
+        Ok(bridged) => tell_both(bridged, sink, audit),
         Err(refusal) => HostStatus::NoMemory(refusal),
     }
 }
@@ -153,16 +203,16 @@ fn serve_plan<R: Threads + Wait + Sync, G: Gate, K: Sink, A: Audit>(
 // Shows the services of both sides to the audit, side 1 first, and writes their reports. The run
 // took the memory, so nothing can be refused any more.
 fn tell_both<K: Sink, A: Audit>(
-    bridged: &Bridged<'_>,
+    bridged: Bridged<'_>,
     sink: &mut SinkGuard<'_, K>,
     audit: &mut AuditGuard<'_, A>,
 ) -> HostStatus
     requires none_failed { sink.old.failed ≡ false }
     requires untouched { sink.old.untouched ≡ true }
     ensures end { EndsBoth result
-        (histories_of bridged.now.one.bus bridged.now.one.tables)
-        (histories_of bridged.now.two.bus bridged.now.two.tables)
-        (both_shown bridged.now.one bridged.now.two)
+        (histories_of bridged.entry.one.bus bridged.entry.one.tables)
+        (histories_of bridged.entry.two.bus bridged.entry.two.tables)
+        (both_shown bridged.entry.one bridged.entry.two)
         (made_through sink.old audit.old) (made_through sink.new audit.new) }
     ensures failed { sink.new.failed ≡ is_write_fault result }
     ensures no_read_fault { is_read_fault result ≡ false }

@@ -1,7 +1,7 @@
 use Rattle.app_run.specs.Runners.{histories_of}
 use Rattle.host_run.specs.Serve.{both_shown, made_through}
 use Rattle.host_run.proofs.PlanEnds.{both-run, ends-plan}
-use Rattle.host_run.proofs.bridging.serve_plan.Goals as goal
+use Rattle.host_run.proofs.bridging.serve_in.Goals as goal
 
 pub returns-in-Ok-clause-end : goal.returns-in-Ok-clause-end
 returns-in-Ok-clause-end g c =
