@@ -14,7 +14,7 @@ use crate::reading::{Reading, read_all};
 use crate::reporting::write_both;
 use crate::serve::ByThreads;
 use crate::status::HostStatus;
-use app_run::Regions;
+use app_run::{Finished, Regions};
 use bridge_plan::{BridgePlan, MAX_PLAN_BYTES, PlanFault};
 use fsw_base::{Gate, Sink, SinkGuard, Source, SourceGuard, WriteFault};
 use sb_bridge::Bridged;
@@ -200,8 +200,7 @@ fn serve_in<R: Threads + Wait + Sync, G: Gate, K: Sink, A: Audit>(
     }
 }
 
-// Shows the services of both sides to the audit, side 1 first, and writes their reports. The run
-// took the memory, so nothing can be refused any more.
+// Shows the services of both sides to the audit, writes their reports, and lets them go.
 fn tell_both<K: Sink, A: Audit>(
     bridged: Bridged<'_>,
     sink: &mut SinkGuard<'_, K>,
@@ -219,10 +218,45 @@ fn tell_both<K: Sink, A: Audit>(
     ensures same_sink { sink.new.sink ≡ sink.old.sink }
     ensures same_audit { audit.new.audit ≡ audit.old.audit }
 {
-    audit.closed(&bridged.one.bus, &bridged.one.tables, sink);
-    audit.closed(&bridged.two.bus, &bridged.two.tables, sink);
-    match write_both(&bridged.one, &bridged.two, sink) {
+    let Bridged { one, two } = bridged;
+    let status = tell_sides(&one, &two, sink, audit);
+    let_go(one);
+    let_go(two);
+    status
+}
+
+// Shows the services of both sides to the audit, side 1 first, and writes their reports. The run
+// took the memory, so nothing can be refused any more.
+fn tell_sides<K: Sink, A: Audit>(
+    one: &Finished<'_>,
+    two: &Finished<'_>,
+    sink: &mut SinkGuard<'_, K>,
+    audit: &mut AuditGuard<'_, A>,
+) -> HostStatus
+    requires none_failed { sink.old.failed ≡ false }
+    requires untouched { sink.old.untouched ≡ true }
+    ensures end { EndsBoth result (histories_of one.now.bus one.now.tables)
+        (histories_of two.now.bus two.now.tables) (both_shown one.now two.now)
+        (made_through sink.old audit.old) (made_through sink.new audit.new) }
+    ensures failed { sink.new.failed ≡ is_write_fault result }
+    ensures no_read_fault { is_read_fault result ≡ false }
+    ensures same_sink { sink.new.sink ≡ sink.old.sink }
+    ensures same_audit { audit.new.audit ≡ audit.old.audit }
+{
+    audit.closed(&one.bus, &one.tables, sink);
+    audit.closed(&two.bus, &two.tables, sink);
+    match write_both(one, two, sink) {
         Ok(()) => HostStatus::Done,
         Err(WriteFault) => HostStatus::WriteFault,
     }
+}
+
+// Lets a side's services go, part by part: the borrow checker's part of the proof takes these one at
+// a time.
+fn let_go(side: Finished<'_>) {
+    let Finished {
+        bus: _bus,
+        tables: _tables,
+        receipts: _receipts,
+    } = side;
 }

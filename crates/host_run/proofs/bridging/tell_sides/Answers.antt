@@ -1,6 +1,6 @@
 use Rattle.std.proofs.Common.{refl}
 use Rattle.host_run.proofs.PlanEnds.{shown-both}
-use Rattle.host_run.proofs.bridging.tell_both.Goals as goal
+use Rattle.host_run.proofs.bridging.tell_sides.Goals as goal
 
 pub returns-in-Ok-clause-end : goal.returns-in-Ok-clause-end
 returns-in-Ok-clause-end g c =
