@@ -251,8 +251,8 @@ fn tell_sides<K: Sink, A: Audit>(
     }
 }
 
-// Lets a side's services go, part by part: the borrow checker's part of the proof takes these one at
-// a time.
+// Lets a side's services go, part by part: the borrow checker's part of the proof takes these one
+// at a time.
 fn let_go(side: Finished<'_>) {
     let Finished {
         bus: _bus,
