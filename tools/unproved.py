@@ -16,16 +16,16 @@ sys.dont_write_bytecode = True  # nothing is left beside the sources
 
 from kit import CRATE, PROGRAM, SECONDS, TOO_LARGE, Case, stop_without_kit, tell, try_cases
 
-# More than the longest script, so that a longer one is refused as such, and an endless one too; and more than the longest
-# input of `check`.
-MOST_INPUT = 2 << 20
+# More than the longest plan of `bridge`, so that a longer one is refused as such, and an endless one too; and more than the
+# longest input of `check`.
+MOST_INPUT = 3 << 20
 MOST_CHECKED = 34 << 20
 
 
 def given_input(words):
     """Standard input to its end, or the most bytes of it that are taken; nothing of a terminal, and nothing where
     the program reads none."""
-    reads = words in (["run"], ["lockstep"], ["check"], ["image"]) or words[:1] == ["pack"]
+    reads = words in (["run"], ["lockstep"], ["check"], ["bridge"], ["image"]) or words[:1] == ["pack"]
     if not reads or sys.stdin is None or sys.stdin.isatty():
         return b""
     return sys.stdin.buffer.read(MOST_CHECKED if words == ["check"] else MOST_INPUT)

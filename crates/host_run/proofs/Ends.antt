@@ -1,14 +1,13 @@
 -- Why the program ended as it did, and that a script is run where nothing fails.
-use Rattle.std.proofs.Common.{◌≡◌, ◌⊎◌, ℕ, true, true≢false, ◌<◌, ◌≤◌, List, [], ◌∷◌, ◌++◌, length, map, Option, Some, None, Result, Ok, Err, IfOk, IfErr, IfSome, inl, inr, refl, sym, ap, subst, ◌∙◌, arith, length-append}
+use Rattle.std.proofs.Common.{◌≡◌, ◌⊎◌, ℕ, ◌<◌, ◌≤◌, List, [], ◌∷◌, ◌++◌, length, map, Option, Some, None, Result, Ok, Err, IfOk, IfErr, IfSome, inl, inr, refl, sym, ap, subst, ◌∙◌, arith, length-append}
 use Rattle.std.specs.List.{range_with_len}
 use Rattle.fsw_base.specs.declared.script_faults.ScriptFault.{ScriptFault}
 use Rattle.bus_words.specs.declared.history.Entry.{Entry}
+use Rattle.bus_words.specs.declared.receipts.Receipt.{Receipt}
 use Rattle.bus_words.specs.ReceiptLists.{Receipts}
 use Rattle.tbl_words.specs.declared.history.Entry.{Entry as TableEntry}
 use Rattle.run_report.specs.Report.{ending_text, figures_shown, table_figures_shown, report_text}
 use Rattle.app_script.specs.Grammar.{grammar}
-use Rattle.script_generate.specs.Generated.{generated}
-use Rattle.script_printing.specs.ScriptSpelling.{spelled_script}
 use Rattle.script_runs.specs.Histories.{Histories}
 use Rattle.app_script.specs.Script.{ScriptText}
 use Rattle.script_runs.specs.Told.{receipts_told}
@@ -17,6 +16,7 @@ use Rattle.script_runs.proofs.EndsCome.{run-guarantees}
 use Rattle.script_runs.proofs.ScriptHistories.{rotation-legal}
 use Rattle.script_runs.proofs.TableHistories.{rotation-legal_tables, rotation-merges_both}
 use Rattle.host_run.proofs.Sizes.{length-grammar}
+use Rattle.fsw_base.specs.Limits.{Limits}
 use Rattle.fsw_base.specs.Outside.{Rose}
 use Rattle.std.specs.Result.{result_ok}
 use Rattle.text_page.specs.Pieces.{Grew, CutShort}
@@ -33,20 +33,17 @@ use Rattle.run_check.specs.declared.judgement.Judgement.{Judgement}
 use Rattle.run_check.specs.declared.judgement.Judgement.TheVariants.{Yes, No}
 use Rattle.host_run.specs.Checking.{most_checked, illegal_text, legal_text, missing_text}
 use Rattle.host_run.specs.Images.{most_image, most_table, image_text, image_fault_text, packed_file}
-use Rattle.host_run.specs.Serve.{Fed, Made, Outside, Served, Takes, Runs, Shows, Packs, Judges, EndsChecked, EndsParts, EndsVerdict, CompletesCheck, status_on, EndsNoImage, EndsShown, EndsPacked, CompletesImage, CompletesPack, IsLeftBy, Read, TooLong, SourceFailed, NoRoom, OtherWords, Serves, Ends, EndsInput, EndsScript, EndsRun, EndsText, EndsRefused, IsRead, Soaks, Tells, TellsFront, ReportsRunFront, fault_text, HasCauses, Completes, CompletesUnread, Headline, MakesNothing, Reports, ReportsRun, Way, Rotating, OnThreads, too_large, figures_after, report_part, part_shown}
+use Rattle.host_run.specs.Serve.{Fed, Made, Runs, Shows, Packs, Judges, EndsChecked, EndsParts, EndsVerdict, CompletesCheck, status_on, EndsNoImage, EndsShown, EndsPacked, CompletesImage, CompletesPack, IsLeftBy, Read, TooLong, SourceFailed, NoRoom, OtherWords, Ends, EndsInput, EndsScript, EndsRun, EndsText, EndsRefused, IsRead, Tells, TellsFront, ReportsRunFront, fault_text, HasCauses, Completes, CompletesUnread, Headline, MakesNothing, Reports, ReportsFront, ReportsRun, Way, Rotating, OnThreads, too_large, figures_after, report_part, part_shown}
 use Rattle.host_run.specs.Audit.{GuardedAudit}
 use Rattle.host_run.specs.Status.{IsNoMemory}
 use Rattle.host_run.specs.declared.memory.MemoryRefusal.{MemoryRefusal}
-use Rattle.host_run.specs.Words.{needs_threads}
 use Rattle.host_run.specs.declared.reporting.Part.{Part}
 use Rattle.host_run.specs.declared.reporting.Part.TheVariants.{Whole, Ending}
-use Rattle.host_run.specs.declared.words.Task.{Task}
-use Rattle.host_run.specs.declared.words.Task.TheVariants as task
 use Rattle.host_run.specs.declared.status.HostStatus.{HostStatus}
 use Rattle.host_run.specs.declared.status.HostStatus.TheVariants.{Done, Usage, Script as Refused, ReadFault, WriteFault, NoMemory, MissingPart, Illegal, Image as NoImage}
 
 -- an end has its cause, where the wanted one has and a front is written of a failed sink alone
-causes-ends : (wanted result : HostStatus) (Due Front Without : Type 0) (fed fed' : Fed) (old new : Made) → HasCauses wanted fed fed' old new →
+pub causes-ends : (wanted result : HostStatus) (Due Front Without : Type 0) (fed fed' : Fed) (old new : Made) → HasCauses wanted fed fed' old new →
     (Front → Rose old.faults new.faults) → Ends wanted result Due Front Without → HasCauses result fed fed' old new
 causes-ends wanted Done Due Front Without fed fed' old new wants rose ends = tt
 causes-ends wanted Usage Due Front Without fed fed' old new wants rose ends = subst (λ r. HasCauses r fed fed' old new) (sym ends.0) wants
@@ -58,15 +55,15 @@ causes-ends wanted MissingPart Due Front Without fed fed' old new wants rose end
 causes-ends wanted (Illegal line) Due Front Without fed fed' old new wants rose ends = tt
 causes-ends wanted (NoImage fault) Due Front Without fed fed' old new wants rose ends = tt
 
-causes-refused : (result : HostStatus) (fault : ScriptFault) (fed fed' : Fed) (old new : Made) → EndsRefused result fault old new → HasCauses result fed fed' old new
+pub causes-refused : (result : HostStatus) (fault : ScriptFault) (fed fed' : Fed) (old new : Made) → EndsRefused result fault old new → HasCauses result fed fed' old new
 causes-refused result fault fed fed' old new ends =
     causes-ends (Refused fault) result (Tells old new (fault_text fault)) (TellsFront old new (fault_text fault)) (MakesNothing old new) fed fed' old new tt (λ front. front.cause) ends
 
-causes-script : (result : HostStatus) (how : Way) (part : Part) (script : ScriptText) (fed fed' : Fed) (old new : Made) → EndsScript result how part script old new → HasCauses result fed fed' old new
+pub causes-script : (result : HostStatus) (how : Way) (part : Part) (script : ScriptText) (fed fed' : Fed) (old new : Made) → EndsScript result how part script old new → HasCauses result fed fed' old new
 causes-script result how part script fed fed' old new ends =
     causes-ends Done result (ReportsRun how part script old new) (ReportsRunFront how part script old new) (MakesNothing old new) fed fed' old new tt (λ front. front.2.cause) ends
 
-causes-text : (wanted result : HostStatus) (text : List ℕ) (without : Type 0) (fed fed' : Fed) (old new : Made) → HasCauses wanted fed fed' old new → EndsText wanted result text without old new → HasCauses result fed fed' old new
+pub causes-text : (wanted result : HostStatus) (text : List ℕ) (without : Type 0) (fed fed' : Fed) (old new : Made) → HasCauses wanted fed fed' old new → EndsText wanted result text without old new → HasCauses result fed fed' old new
 causes-text wanted result text without fed fed' old new wants ends =
     causes-ends wanted result (Tells old new text) (TellsFront old new text) without fed fed' old new wants (λ front. front.cause) ends
 
@@ -74,7 +71,7 @@ causes-input : (result : HostStatus) (how : Way) (found : Result ScriptText Scri
 causes-input result how (Ok script) fed fed' old new ends = causes-script result how Whole script fed fed' old new ends
 causes-input result how (Err fault) fed fed' old new ends = causes-refused result fault fed fed' old new ends
 
-causes-none : (result : HostStatus) (fed fed' : Fed) (old new : Made) → IsNoMemory result → HasCauses result fed fed' old new
+pub causes-none : (result : HostStatus) (fed fed' : Fed) (old new : Made) → IsNoMemory result → HasCauses result fed fed' old new
 causes-none Done fed fed' old new is = absurd is
 causes-none Usage fed fed' old new is = is
 causes-none (Refused fault) fed fed' old new is = absurd is
@@ -86,7 +83,7 @@ causes-none (Illegal line) fed fed' old new is = absurd is
 causes-none (NoImage fault) fed fed' old new is = absurd is
 
 -- each end has its cause
-causes-runs : (result : HostStatus) (how : Way) (fed fed' : Fed) (old new : Made) → Runs how result fed fed' old new → HasCauses result fed fed' old new
+pub causes-runs : (result : HostStatus) (how : Way) (fed fed' : Fed) (old new : Made) → Runs how result fed fed' old new → HasCauses result fed fed' old new
 causes-runs result how fed fed' old new (Read bytes whole ends) = causes-input result how (grammar bytes) fed fed' old new ends
 causes-runs result how fed fed' old new (TooLong large ends) = causes-refused result too_large fed fed' old new ends
 causes-runs result how fed fed' old new (SourceFailed is rose part nothing) = subst (λ r. HasCauses r fed fed' old new) (sym is) rose
@@ -118,36 +115,26 @@ causes-parts : (result : HostStatus) (parts : Option (List ℕ × List ℕ)) (fe
 causes-parts result None fed fed' old new ends = causes-text MissingPart result missing_text ⊥ fed fed' old new tt ends
 causes-parts result (Some parts) fed fed' old new ends = causes-checked result (grammar parts.0) parts.1 fed fed' old new ends
 
-causes-judges : (result : HostStatus) (fed fed' : Fed) (old new : Made) → Judges result fed fed' old new → HasCauses result fed fed' old new
+pub causes-judges : (result : HostStatus) (fed fed' : Fed) (old new : Made) → Judges result fed fed' old new → HasCauses result fed fed' old new
 causes-judges result fed fed' old new (Read bytes whole ends) = causes-parts result (parts_in bytes) fed fed' old new ends
 causes-judges result fed fed' old new (TooLong large ends) = causes-refused result too_large fed fed' old new ends
 causes-judges result fed fed' old new (SourceFailed is rose part nothing) = subst (λ r. HasCauses r fed fed' old new) (sym is) rose
 causes-judges result fed fed' old new (NoRoom is unread nothing) = causes-none result fed fed' old new is
 
-causes-shows : (result : HostStatus) (fed fed' : Fed) (old new : Made) → Shows result fed fed' old new → HasCauses result fed fed' old new
+pub causes-shows : (result : HostStatus) (fed fed' : Fed) (old new : Made) → Shows result fed fed' old new → HasCauses result fed fed' old new
 causes-shows result fed fed' old new (Read bytes whole ends) = causes-shown result (image_fault bytes) bytes fed fed' old new ends
 causes-shows result fed fed' old new (TooLong large ends) = causes-too_large result fed fed' old new ends
 causes-shows result fed fed' old new (SourceFailed is rose part nothing) = subst (λ r. HasCauses r fed fed' old new) (sym is) rose
 causes-shows result fed fed' old new (NoRoom is unread nothing) = causes-none result fed fed' old new is
 
-causes-packs : (result : HostStatus) (name : List ℕ) (offset sub : ℕ) (fed fed' : Fed) (old new : Made) → Packs result name offset sub fed fed' old new → HasCauses result fed fed' old new
+pub causes-packs : (result : HostStatus) (name : List ℕ) (offset sub : ℕ) (fed fed' : Fed) (old new : Made) → Packs result name offset sub fed fed' old new → HasCauses result fed fed' old new
 causes-packs result name offset sub fed fed' old new (Read bytes whole ends) = causes-packed result name offset sub bytes fed fed' old new ends
 causes-packs result name offset sub fed fed' old new (TooLong large ends) = causes-too_large result fed fed' old new ends
 causes-packs result name offset sub fed fed' old new (SourceFailed is rose part nothing) = subst (λ r. HasCauses r fed fed' old new) (sym is) rose
 causes-packs result name offset sub fed fed' old new (NoRoom is unread nothing) = causes-none result fed fed' old new is
 
-pub causes-task : (wanted : Option Task) (result : HostStatus) (fed fed' : Fed) (old new : Made) → Serves wanted result fed fed' old new →
-    (asked : Task) → wanted ≡ Some asked → HasCauses result fed fed' old new
-causes-task wanted result fed fed' old new serves task.Run is = causes-runs result OnThreads fed fed' old new (serves.on_threads is)
-causes-task wanted result fed fed' old new serves task.Lockstep is = causes-runs result Rotating fed fed' old new (serves.lockstep is)
-causes-task wanted result fed fed' old new serves (task.Generate number) is = causes-text Done result (spelled_script (generated number)) (MakesNothing old new) fed fed' old new tt (serves.generates number is).ends
-causes-task wanted result fed fed' old new serves (task.Soak number) is = causes-script result Rotating Ending (generated number) fed fed' old new (serves.soaks number is).ends
-causes-task wanted result fed fed' old new serves task.Check is = causes-judges result fed fed' old new (serves.judges is)
-causes-task wanted result fed fed' old new serves task.ShowImage is = causes-shows result fed fed' old new (serves.shows is)
-causes-task wanted result fed fed' old new serves (task.Pack name offset sub) is = causes-packs result name offset sub fed fed' old new (serves.packs name offset sub is)
-
 -- what was wanted came, or there was no memory, where the sink didn't fail
-wanted-ends : (wanted result : HostStatus) (Due Front Without : Type 0) (old new : Made) → (Front → Rose old.faults new.faults) → Ends wanted result Due Front Without →
+pub wanted-ends : (wanted result : HostStatus) (Due Front Without : Type 0) (old new : Made) → (Front → Rose old.faults new.faults) → Ends wanted result Due Front Without →
     ¬ Rose old.faults new.faults → (result ≡ wanted) ⊎ IsNoMemory result
 wanted-ends wanted Done Due Front Without old new rose ends = λ clean. inl ends.0
 wanted-ends wanted Usage Due Front Without old new rose ends = λ clean. inl ends.0
@@ -159,6 +146,19 @@ wanted-ends wanted MissingPart Due Front Without old new rose ends = λ clean. i
 wanted-ends wanted (Illegal line) Due Front Without old new rose ends = λ clean. inl ends.0
 wanted-ends wanted (NoImage fault) Due Front Without old new rose ends = λ clean. inl ends.0
 
+-- an end is one with other things due, where these follow from those
+pub ends-map : (wanted result : HostStatus) (Due Other Front OtherFront Without OtherWithout : Type 0) → (Due → Other) → (Front → OtherFront) → (Without → OtherWithout) →
+    Ends wanted result Due Front Without → Ends wanted result Other OtherFront OtherWithout
+ends-map wanted Done Due Other Front OtherFront Without OtherWithout due front without ends = (ends.0, due ends.1)
+ends-map wanted Usage Due Other Front OtherFront Without OtherWithout due front without ends = (ends.0, due ends.1)
+ends-map wanted (Refused fault) Due Other Front OtherFront Without OtherWithout due front without ends = (ends.0, due ends.1)
+ends-map wanted ReadFault Due Other Front OtherFront Without OtherWithout due front without ends = (ends.0, due ends.1)
+ends-map wanted WriteFault Due Other Front OtherFront Without OtherWithout due front without ends = front ends
+ends-map wanted (NoMemory refused) Due Other Front OtherFront Without OtherWithout due front without ends = without ends
+ends-map wanted MissingPart Due Other Front OtherFront Without OtherWithout due front without ends = (ends.0, due ends.1)
+ends-map wanted (Illegal line) Due Other Front OtherFront Without OtherWithout due front without ends = (ends.0, due ends.1)
+ends-map wanted (NoImage fault) Due Other Front OtherFront Without OtherWithout due front without ends = (ends.0, due ends.1)
+
 pub script-done : (result : HostStatus) (how : Way) (part : Part) (script : ScriptText) (old new : Made) → EndsScript result how part script old new → CompletesUnread result old new
 script-done result how part script old new ends =
     wanted-ends Done result (ReportsRun how part script old new) (ReportsRunFront how part script old new) (MakesNothing old new) old new (λ front. front.2.cause) ends
@@ -168,12 +168,12 @@ pub text-done : (result : HostStatus) (text : List ℕ) (without : Type 0) (old 
 text-done result text without old new ends = wanted-ends Done result (Tells old new text) (TellsFront old new text) without old new (λ front. front.cause) ends
 
 -- the input that was read whole is the one that was told
-whole-told : (most : ℕ) (bytes input : List ℕ) (left left' : Option (List ℕ)) → IsWhole most bytes left left' → left ≡ Some input → bytes ≡ input
+pub whole-told : (most : ℕ) (bytes input : List ℕ) (left left' : Option (List ℕ)) → IsWhole most bytes left left' → left ≡ Some input → bytes ≡ input
 whole-told most bytes input left left' whole told =
     sym (subst (λ l. IfSome l (λ i. i ≡ bytes)) told whole.exactly)
 
 -- an input of which too much was read is longer than what is taken
-large-long : (most : ℕ) (input : List ℕ) (left left' : Option (List ℕ)) → IsTooLarge most left left' → left ≡ Some input → most < length input
+pub large-long : (most : ℕ) (input : List ℕ) (left left' : Option (List ℕ)) → IsTooLarge most left left' → left ≡ Some input → most < length input
 large-long most input left (Some rest) large told =
     let is : Some (large.0 ++ rest) ≡ Some input = sym large.2 ∙ told in
     omega (arith, large.1, length-append large.0 rest, ap (λ o. option_length o) is)
@@ -210,7 +210,7 @@ checked-done result script report old new (inl judged) clean = by (verdict-done 
     by (inr none) = inr none
 checked-done result script report old new (inr none) clean = inr none.0
 
-completes-judges : (result : HostStatus) (fed fed' : Fed) (old new : Made) → Judges result fed fed' old new → CompletesCheck result fed fed' old new
+pub completes-judges : (result : HostStatus) (fed fed' : Fed) (old new : Made) → Judges result fed fed' old new → CompletesCheck result fed fed' old new
 completes-judges result fed fed' old new (Read bytes whole ends) = λ input text report script told small split form source sink.
     let same = whole-told most_checked bytes input fed.left fed'.left whole told in
     checked-done result script report old new
@@ -230,7 +230,7 @@ completes-shown : (result : HostStatus) (found : Option ImageFault) (file : List
 completes-shown result (Some fault) file old new none ends = absurd (cc none)
 completes-shown result None file old new none ends = text-done result (image_text (name_in file) (offset_in file) (table_in file) (sub_in file)) ⊥ old new ends
 
-completes-shows : (result : HostStatus) (fed fed' : Fed) (old new : Made) → Shows result fed fed' old new → CompletesImage result fed fed' old new
+pub completes-shows : (result : HostStatus) (fed fed' : Fed) (old new : Made) → Shows result fed fed' old new → CompletesImage result fed fed' old new
 completes-shows result fed fed' old new (Read bytes whole ends) = λ input told small form source sink.
     let same = whole-told most_image bytes input fed.left fed'.left whole told in
     completes-shown result (image_fault bytes) bytes old new (ap image_fault same ∙ form) ends sink
@@ -243,7 +243,7 @@ completes-packed : (result : HostStatus) (name : List ℕ) (offset sub : ℕ) (b
 completes-packed result name offset sub [] old new some ends = absurd (omega (arith, some))
 completes-packed result name offset sub (byte ∷ bytes) old new some ends = text-done result (packed_file name offset sub (byte ∷ bytes)) (MakesNothing old new) old new ends
 
-completes-packs : (result : HostStatus) (name : List ℕ) (offset sub : ℕ) (fed fed' : Fed) (old new : Made) → Packs result name offset sub fed fed' old new → CompletesPack result fed fed' old new
+pub completes-packs : (result : HostStatus) (name : List ℕ) (offset sub : ℕ) (fed fed' : Fed) (old new : Made) → Packs result name offset sub fed fed' old new → CompletesPack result fed fed' old new
 completes-packs result name offset sub fed fed' old new (Read bytes whole ends) = λ input told some small source sink.
     let same = whole-told most_table bytes input fed.left fed'.left whole told in
     completes-packed result name offset sub bytes old new (subst (λ (l : List ℕ). 1 ≤ length l) (sym same) some) ends sink
@@ -290,100 +290,6 @@ runs-read how result script fed fed' old mid new read same ends =
     Read read.0 read.1
     (subst (λ found. EndsInput result how found old new) (sym read.2) (subst (λ m. EndsScript result how Whole script m new) same ends))
 
--- on `run` what happens is what was asked for
-pub serves-run : (wanted : Option Task) (result : HostStatus) (fed fed' : Fed) (old new : Made) → needs_threads wanted ≡ true → Runs OnThreads result fed fed' old new →
-    Serves wanted result fed fed' old new
-serves-run (Some task.Run) result fed fed' old new needs runs = record {
-  on_threads = λ words. runs;
-  lockstep = λ words. absurd (cc words);
-  generates = λ number words. absurd (cc words);
-  soaks = λ number words. absurd (cc words);
-  judges = λ words. absurd (cc words);
-  shows = λ words. absurd (cc words);
-  packs = λ name offset sub words. absurd (cc words);
-  other_words = λ words. absurd (cc words);
-}
-serves-run (Some task.Lockstep) result fed fed' old new needs runs = absurd (true≢false (sym needs))
-serves-run (Some (task.Generate number)) result fed fed' old new needs runs = absurd (true≢false (sym needs))
-serves-run (Some (task.Soak number)) result fed fed' old new needs runs = absurd (true≢false (sym needs))
-serves-run (Some task.Check) result fed fed' old new needs runs = absurd (true≢false (sym needs))
-serves-run (Some task.ShowImage) result fed fed' old new needs runs = absurd (true≢false (sym needs))
-serves-run (Some (task.Pack name offset sub)) result fed fed' old new needs runs = absurd (true≢false (sym needs))
-serves-run None result fed fed' old new needs runs = absurd (true≢false (sym needs))
-
--- what happens on words that the program doesn't know is what happens
-pub serves-other : (wanted : Option Task) (result : HostStatus) (fed fed' : Fed) (old new : Made) → wanted ≡ None → OtherWords result fed fed' old new → Serves wanted result fed fed' old new
-serves-other wanted result fed fed' old new none other = record {
-  on_threads = λ words. absurd (cc (none, words));
-  lockstep = λ words. absurd (cc (none, words));
-  generates = λ number words. absurd (cc (none, words));
-  soaks = λ number words. absurd (cc (none, words));
-  judges = λ words. absurd (cc (none, words));
-  shows = λ words. absurd (cc (none, words));
-  packs = λ name offset sub words. absurd (cc (none, words));
-  other_words = λ words. other;
-}
-
--- what happens on `soak` and a number is what happens
-pub serves-soaks : (wanted : Option Task) (number : ℕ) (result : HostStatus) (fed fed' : Fed) (old new : Made) → wanted ≡ Some (task.Soak number) →
-    Soaks result number fed fed' old new → Serves wanted result fed fed' old new
-serves-soaks wanted number result fed fed' old new is done = record {
-  on_threads = λ words. absurd (cc (is, words));
-  lockstep = λ words. absurd (cc (is, words));
-  generates = λ other words. absurd (cc (is, words));
-  soaks = λ other words. subst (λ n. Soaks result n fed fed' old new) (cc (is, words)) done;
-  judges = λ words. absurd (cc (is, words));
-  shows = λ words. absurd (cc (is, words));
-  packs = λ name offset sub words. absurd (cc (is, words));
-  other_words = λ words. absurd (cc (is, words));
-}
-
--- what happens on `check` is what happens
-pub serves-judges : (wanted : Option Task) (result : HostStatus) (fed fed' : Fed) (old new : Made) → wanted ≡ Some task.Check →
-    Judges result fed fed' old new → Serves wanted result fed fed' old new
-serves-judges wanted result fed fed' old new is done = record {
-  on_threads = λ words. absurd (cc (is, words));
-  lockstep = λ words. absurd (cc (is, words));
-  generates = λ number words. absurd (cc (is, words));
-  soaks = λ number words. absurd (cc (is, words));
-  judges = λ words. done;
-  shows = λ words. absurd (cc (is, words));
-  packs = λ name offset sub words. absurd (cc (is, words));
-  other_words = λ words. absurd (cc (is, words));
-}
-
--- what happens on `image` is what happens
-pub serves-shows : (wanted : Option Task) (result : HostStatus) (fed fed' : Fed) (old new : Made) → wanted ≡ Some task.ShowImage →
-    Shows result fed fed' old new → Serves wanted result fed fed' old new
-serves-shows wanted result fed fed' old new is done = record {
-  on_threads = λ words. absurd (cc (is, words));
-  lockstep = λ words. absurd (cc (is, words));
-  generates = λ number words. absurd (cc (is, words));
-  soaks = λ number words. absurd (cc (is, words));
-  judges = λ words. absurd (cc (is, words));
-  shows = λ words. done;
-  packs = λ name offset sub words. absurd (cc (is, words));
-  other_words = λ words. absurd (cc (is, words));
-}
-
--- what happens on `pack` is what happens
-pub serves-packs : (wanted : Option Task) (name : List ℕ) (offset sub : ℕ) (result : HostStatus) (fed fed' : Fed) (old new : Made) → wanted ≡ Some (task.Pack name offset sub) →
-    Packs result name offset sub fed fed' old new → Serves wanted result fed fed' old new
-serves-packs wanted name offset sub result fed fed' old new is done = record {
-  on_threads = λ words. absurd (cc (is, words));
-  lockstep = λ words. absurd (cc (is, words));
-  generates = λ number words. absurd (cc (is, words));
-  soaks = λ number words. absurd (cc (is, words));
-  judges = λ words. absurd (cc (is, words));
-  shows = λ words. absurd (cc (is, words));
-  packs = λ other at what words.
-      let one : name ≡ other = cc (is, words) in
-      let two : offset ≡ at = cc (is, words) in
-      let three : sub ≡ what = cc (is, words) in
-      subst (λ n. Packs result n at what fed fed' old new) one (subst (λ n. Packs result name n what fed fed' old new) two (subst (λ n. Packs result name offset n fed fed' old new) three done));
-  other_words = λ words. absurd (cc (is, words));
-}
-
 -- what a run leaves, in either way, is left by a run of the script
 run-left : (how : Way) (script : ScriptText) (histories : Histories) → IsLeftBy how script histories → IsRunOf script histories
 run-left Rotating script histories is =
@@ -406,17 +312,15 @@ headline-runs result how fed fed' old new (TooLong large ends) = λ done. absurd
 headline-runs result how fed fed' old new (SourceFailed is rose part nothing) = λ done. absurd (cc (is, done))
 headline-runs result how fed fed' old new (NoRoom is unread nothing) = λ done. absurd (subst IsNoMemory done is)
 
--- what a report shows of a core with the script's limits and applications
-figures-run : (script : ScriptText) (core : Core) → core.limits ≡ script.limits → apps_of core ≡ length script.apps →
-    figures_shown core.limits (state_of core) ≡ figures_after script.limits (length script.apps) core.log.entries
-figures-run script core limits apps =
-    ap (λ l. figures_after l (apps_of core) core.log.entries) limits ∙ ap (λ n. figures_after script.limits n core.log.entries) apps
+-- what a report shows of a core with these limits and so many applications
+figures-of : (limits : Limits) (apps : ℕ) (core : Core) → core.limits ≡ limits → apps_of core ≡ apps → figures_shown core.limits (state_of core) ≡ figures_after limits apps core.log.entries
+figures-of limits apps core is many = ap (λ l. figures_after l (apps_of core) core.log.entries) is ∙ ap (λ n. figures_after limits n core.log.entries) many
 
 -- and of the tables
-table-figures-run : (script : ScriptText) (core : TableCore) → core.limits ≡ script.limits → table_apps_of core ≡ length script.apps →
-    table_figures_shown core.limits (table_apps_of core) core.log.entries ≡ table_figures_shown script.limits (length script.apps) core.log.entries
-table-figures-run script core limits apps =
-    ap (λ l. table_figures_shown l (table_apps_of core) core.log.entries) limits ∙ ap (λ n. table_figures_shown script.limits n core.log.entries) apps
+table-figures-of : (limits : Limits) (apps : ℕ) (core : TableCore) → core.limits ≡ limits → table_apps_of core ≡ apps →
+    table_figures_shown core.limits (table_apps_of core) core.log.entries ≡ table_figures_shown limits apps core.log.entries
+table-figures-of limits apps core is many =
+    ap (λ l. table_figures_shown l (table_apps_of core) core.log.entries) is ∙ ap (λ n. table_figures_shown limits n core.log.entries) many
 
 -- of a file that is an image the line on it is due
 pub shown-none : (result : HostStatus) (file name : List ℕ) (offset : ℕ) (bytes : List ℕ) (sub : ℕ) (old new : Made) → image_fault file ≡ None →
@@ -436,6 +340,17 @@ pub packed-some : (result : HostStatus) (name : List ℕ) (offset sub : ℕ) (by
 packed-some result name offset sub [] old new some ends = absurd (omega (arith, some))
 packed-some result name offset sub (byte ∷ bytes) old new some ends = ends
 
+-- what is reported of both services, by their limits and their applications, and by what these tell
+pub reported-whole : (limits : Limits) (apps : ℕ) (receipts : List (List Receipt)) (core : Core) (tables : TableCore) (lists : List Receipts) →
+    core.limits ≡ limits → tables.limits ≡ limits → apps_of core ≡ apps → table_apps_of tables ≡ apps → map (λ list. list.receipts) lists ≡ receipts →
+    part_shown Whole core tables lists ≡
+    report_text core.log.entries tables.log.entries receipts (figures_after limits apps core.log.entries) (table_figures_shown limits apps tables.log.entries)
+reported-whole limits apps receipts core tables lists is table_is many table_many told =
+    ap (λ f. report_text core.log.entries tables.log.entries (map (λ list. list.receipts) lists) f (table_figures_shown tables.limits (table_apps_of tables) tables.log.entries))
+    (figures-of limits apps core is many)
+    ∙ ap (report_text core.log.entries tables.log.entries (map (λ list. list.receipts) lists) (figures_after limits apps core.log.entries)) (table-figures-of limits apps tables table_is table_many)
+    ∙ ap (λ l. report_text core.log.entries tables.log.entries l (figures_after limits apps core.log.entries) (table_figures_shown limits apps tables.log.entries)) told
+
 -- what is reported of both services after a run of the script is the report of their histories: their limits and their applications
 -- are the script's
 part-run : (part : Part) (script : ScriptText) (core : Core) (tables : TableCore) (lists : List Receipts) →
@@ -443,15 +358,10 @@ part-run : (part : Part) (script : ScriptText) (core : Core) (tables : TableCore
     map (λ list. list.receipts) lists ≡ map (receipts_told script (histories_of core tables)) (range_with_len 1 (length script.apps)) →
     part_shown part core tables lists ≡ report_part part script (histories_of core tables)
 part-run Whole script core tables lists limits table_limits apps table_apps told =
-    ap (λ f. report_text core.log.entries tables.log.entries (map (λ list. list.receipts) lists) f (table_figures_shown tables.limits (table_apps_of tables) tables.log.entries))
-    (figures-run script core limits apps)
-    ∙ ap (report_text core.log.entries tables.log.entries (map (λ list. list.receipts) lists) (figures_after script.limits (length script.apps) core.log.entries))
-    (table-figures-run script tables table_limits table_apps)
-    ∙ ap (λ receipts. report_text core.log.entries tables.log.entries receipts (figures_after script.limits (length script.apps) core.log.entries)
-    (table_figures_shown script.limits (length script.apps) tables.log.entries)) told
+    reported-whole script.limits (length script.apps) (map (receipts_told script (histories_of core tables)) (range_with_len 1 (length script.apps))) core tables lists limits table_limits apps table_apps told
 part-run Ending script core tables lists limits table_limits apps table_apps told =
-    ap (λ f. ending_text f (table_figures_shown tables.limits (table_apps_of tables) tables.log.entries)) (figures-run script core limits apps)
-    ∙ ap (ending_text (figures_after script.limits (length script.apps) core.log.entries)) (table-figures-run script tables table_limits table_apps)
+    ap (λ f. ending_text f (table_figures_shown tables.limits (table_apps_of tables) tables.log.entries)) (figures-of script.limits (length script.apps) core limits apps)
+    ∙ ap (ending_text (figures_after script.limits (length script.apps) core.log.entries)) (table-figures-of script.limits (length script.apps) tables table_limits table_apps)
 
 whole-as : (how : Way) (part : Part) (script : ScriptText) (histories : Histories) (text : List ℕ) (old new : Made) →
     IsLeftBy how script histories → text ≡ report_part part script histories → Reports old new histories text → ReportsRun how part script old new
@@ -461,16 +371,11 @@ whole-as how part script histories text old new left is reports =
 -- where what a run left is shown and its text is due of the script, the script ended so
 ends-as : (result : HostStatus) (how : Way) (part : Part) (script : ScriptText) (histories : Histories) (text : List ℕ) (old new : Made) →
     IsLeftBy how script histories → text ≡ report_part part script histories → EndsRun result histories text old new → EndsScript result how part script old new
-ends-as Done how part script histories text old new left is ends = (ends.0, whole-as how part script histories text old new left is ends.1)
-ends-as Usage how part script histories text old new left is ends = (ends.0, whole-as how part script histories text old new left is ends.1)
-ends-as (Refused fault) how part script histories text old new left is ends = (ends.0, whole-as how part script histories text old new left is ends.1)
-ends-as ReadFault how part script histories text old new left is ends = (ends.0, whole-as how part script histories text old new left is ends.1)
-ends-as WriteFault how part script histories text old new left is ends =
-    (histories, left, record { front = subst (CutShort old.written new.written) is ends.front; cause = ends.cause; shown = ends.shown })
-ends-as (NoMemory refused) how part script histories text old new left is ends = absurd ends
-ends-as MissingPart how part script histories text old new left is ends = (ends.0, whole-as how part script histories text old new left is ends.1)
-ends-as (Illegal line) how part script histories text old new left is ends = (ends.0, whole-as how part script histories text old new left is ends.1)
-ends-as (NoImage fault) how part script histories text old new left is ends = (ends.0, whole-as how part script histories text old new left is ends.1)
+ends-as result how part script histories text old new left is ends =
+    ends-map Done result (Reports old new histories text) (ReportsRun how part script old new) (ReportsFront old new histories text) (ReportsRunFront how part script old new) ⊥ (MakesNothing old new)
+    (whole-as how part script histories text old new left is)
+    (λ front. (histories, left, record { front = subst (CutShort old.written new.written) is front.front; cause = front.cause; shown = front.shown }))
+    (λ none. absurd none) ends
 
 pub ends-run : (result : HostStatus) (how : Way) (part : Part) (script : ScriptText) (core : Core) (tables : TableCore) (lists : List Receipts) (old new : Made) →
     core.limits ≡ script.limits → tables.limits ≡ script.limits → apps_of core ≡ length script.apps → table_apps_of tables ≡ length script.apps →
@@ -486,47 +391,7 @@ pub same-histories : (bus : List Entry) (tables : List TableEntry) (histories : 
     (let pair : Histories = record { bus = bus; tables = tables } in pair) ≡ histories
 same-histories bus tables histories one two = λ i. record { bus = one i; tables = two i }
 
--- the same in other words, where what guards told is what the traits tell
-pub serves-as : {wanted : Option Task} {result : HostStatus} {fed fed' fed₂ fed₂' : Fed} {old new old₂ new₂ : Made} → fed₂ ≡ fed → fed₂' ≡ fed' → old₂ ≡ old → new₂ ≡ new →
-    Serves wanted result fed₂ fed₂' old₂ new₂ → Serves wanted result fed fed' old new
-serves-as {wanted} {result} {fed} {fed'} {fed₂} {fed₂'} {old} {new} {old₂} {new₂} one two three four serves =
-    subst (λ n. Serves wanted result fed fed' old n) four (subst (λ o. Serves wanted result fed fed' o new₂) three
-    (subst (λ f. Serves wanted result fed f old₂ new₂) two (subst (λ f. Serves wanted result f fed₂' old₂ new₂) one serves)))
-
-pub fed-as : {left left' : Option (List ℕ)} {faults faults' : ℕ} → left ≡ left' → faults ≡ faults' →
-    (let f : Fed = record { left = left; faults = faults } in f) ≡ record { left = left'; faults = faults' }
-fed-as one two = cc
-
-pub made-as : {written written' : Option (List ℕ)} {faults faults' : ℕ} {shown shown' : Option (List Histories)} → written ≡ written' → faults ≡ faults' → shown ≡ shown' →
-    (let m : Made = record { written = written; faults = faults; shown = shown } in m) ≡ record { written = written'; faults = faults'; shown = shown' }
-made-as one two three = cc
-
 -- what was taken is what the call that takes it gave
 pub some-of : {T E : Type 0} (r : Result T E) (o : Option T) (P : T → Type 0) → o ≡ result_ok r → IfOk r P → IfSome o P
 some-of (Ok x) o P is holds = subst (λ q. IfSome q P) (sym is) holds
 some-of (Err e) o P is holds = subst (λ q. IfSome q P) (sym is) tt
-
--- all that the top call did, by what happened
-pub served : (wanted : Option Task) (result : HostStatus) (before after : Outside) → Serves wanted result before.fed after.fed before.made after.made →
-    Served wanted result before after
-served wanted result before after serves = record {
-  headline_on_run = λ words. headline-runs result OnThreads before.fed after.fed before.made after.made (serves.on_threads words);
-  headline = λ words. headline-runs result Rotating before.fed after.fed before.made after.made (serves.lockstep words);
-  on_threads = serves.on_threads;
-  lockstep = serves.lockstep;
-  generates = serves.generates;
-  soaks = serves.soaks;
-  judges = serves.judges;
-  shows = serves.shows;
-  packs = serves.packs;
-  other_words = serves.other_words;
-  causes = causes-task wanted result before.fed after.fed before.made after.made serves;
-  usage_or_fault = λ words. ends-other result before.fed after.fed before.made after.made (serves.other_words words);
-  complete_on_run = λ words. completes-runs result OnThreads before.fed after.fed before.made after.made (serves.on_threads words);
-  complete = λ words. completes-runs result Rotating before.fed after.fed before.made after.made (serves.lockstep words);
-  complete_generates = λ number words. text-done result (spelled_script (generated number)) (MakesNothing before.made after.made) before.made after.made (serves.generates number words).ends;
-  complete_soaks = λ number words. script-done result Rotating Ending (generated number) before.made after.made (serves.soaks number words).ends;
-  complete_judges = λ words. completes-judges result before.fed after.fed before.made after.made (serves.judges words);
-  complete_shows = λ words. completes-shows result before.fed after.fed before.made after.made (serves.shows words);
-  complete_packs = λ name offset sub words. completes-packs result name offset sub before.fed after.fed before.made after.made (serves.packs name offset sub words);
-}

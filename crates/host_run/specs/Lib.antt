@@ -1,4 +1,5 @@
 pub mod Audit
+pub mod Bridging
 pub mod Checking
 pub mod Copies
 pub mod Images

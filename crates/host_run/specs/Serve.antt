@@ -22,7 +22,14 @@ use Rattle.script_runs.specs.Rotation.{rotation}
 use Rattle.app_script.specs.Script.{ScriptText}
 use Rattle.script_generate.specs.Generated.{generated}
 use Rattle.script_printing.specs.ScriptSpelling.{spelled_script}
+use Rattle.bridge_plan.specs.declared.fail.PlanFault.{PlanFault}
+use Rattle.bridge_plan.specs.declared.fail.PlanFault.TheVariants as no_plan
+use Rattle.bridge_plan.specs.Grammar.{plan_of}
+use Rattle.bridge_plan.specs.Plan.{PlanText}
+use Rattle.bridge_runs.specs.Bridged.{IsBridged}
 use Rattle.host_run.specs.Audit.{IsShown, GuardedAudit}
+use Rattle.host_run.specs.Bridging.{AreShown, both_reports, most_plan}
+use Rattle.app_run.specs.declared.rotating.Finished.{Finished}
 use Rattle.app_run.specs.Runners.{histories_of}
 use Rattle.host_run.specs.Status.{IsNoMemory}
 use Rattle.host_run.specs.Input.{most_input, IsWhole, IsTooLarge, IsPartRead}
@@ -46,7 +53,8 @@ use Rattle.host_run.specs.declared.status.HostStatus.TheVariants as status
 
 -- the line that tells which words the program knows
 abbrev pub usage_text : List ℕ
-usage_text = codes "usage: run | lockstep | gen N | soak N | check | image | pack NAME OFFSET SUB\n"
+usage_text =
+    codes "usage: run | lockstep | gen N | soak N | check | image | pack NAME OFFSET SUB | bridge\n"
 
 -- the line that tells a fault
 abbrev pub fault_text : ScriptFault → List ℕ
@@ -84,6 +92,14 @@ abbrev pub part_shown : Part → Core → TableCore → List Receipts → List �
 part_shown part bus tables lists =
     part_of part (histories_of bus tables) lists (figures_shown bus.limits (state_of bus))
     (table_figures_shown tables.limits (table_apps_of tables) tables.log.entries)
+
+-- a line, and the whole report of what a side of a bridge left
+unfoldable pub side_shown : List ℕ → Finished → List ℕ
+side_shown line side = line ++ part_shown Whole side.bus side.tables side.receipts.items
+
+-- that of both sides, each behind a line with its side
+unfoldable pub both_shown : Finished → Finished → List ℕ
+both_shown one two = side_shown (codes "side 1\n") one ++ side_shown (codes "side 2\n") two
 
 -- A source: the input left, where it is told, and the count of its faults.
 pub record Fed : Type 0 where
@@ -141,6 +157,17 @@ pub record ReportsFront (old new : Made) (histories : Histories) (text : List �
   pub front : CutShort old.written new.written text
   pub cause : Rose old.faults new.faults
   pub shown : IsShown old.shown new.shown histories
+
+-- the histories of side 1 and of side 2 of a bridge were shown, and a text written
+pub record ReportsPair (old new : Made) (one two : Histories) (text : List ℕ) : Type 0 where
+  pub written : Grew old.written new.written text
+  pub shown : AreShown old.shown new.shown one two
+
+-- these histories were shown, a front of a text written, and the sink's count of faults rose
+pub record ReportsPairFront (old new : Made) (one two : Histories) (text : List ℕ) : Type 0 where
+  pub front : CutShort old.written new.written text
+  pub cause : Rose old.faults new.faults
+  pub shown : AreShown old.shown new.shown one two
 
 -- What was made, by how a call ended: all that was due, at the wanted end; a front of it, where the
 -- sink failed; what is made without memory, where some was refused. There is no other end.
@@ -249,6 +276,49 @@ abbrev pub EndsParts : HostStatus → Option (List ℕ × List ℕ) → Made →
 EndsParts result None old new = EndsText status.MissingPart result missing_text ⊥ old new
 EndsParts result (Some parts) old new = EndsChecked result (grammar parts.0) parts.1 old new
 
+-- A run of a plan left these histories of its sides, whatever the interleaving: the bridge sent on
+-- side 2 just what its pipe received on side 1, each message once and in order. They were shown,
+-- and the reports of both sides written.
+abbrev pub ReportsPlan : PlanText → Made → Made → Type 0
+ReportsPlan plan old new =
+    (one : Histories) × (two : Histories) × IsBridged plan one two ×
+    ReportsPair old new one two (both_reports plan one two)
+
+-- the same, but that a front of the reports was written, since the sink failed
+abbrev pub ReportsPlanFront : PlanText → Made → Made → Type 0
+ReportsPlanFront plan old new =
+    (one : Histories) × (two : Histories) × IsBridged plan one two ×
+    ReportsPairFront old new one two (both_reports plan one two)
+
+-- how the run of a plan ends
+abbrev pub EndsPlan : HostStatus → PlanText → Made → Made → Type 0
+EndsPlan result plan old new =
+    Ends status.Done result (ReportsPlan plan old new) (ReportsPlanFront plan old new)
+    (MakesNothing old new)
+
+-- how a run of two sides that went through ends: their histories are shown, and a text is due; no
+-- memory is asked for after it
+abbrev pub EndsBoth : HostStatus → Histories → Histories → List ℕ → Made → Made → Type 0
+EndsBoth result one two text old new =
+    Ends status.Done result (ReportsPair old new one two text)
+    (ReportsPairFront old new one two text) ⊥
+
+-- how an input ends that is no plan: the line of its fault is due
+abbrev pub EndsNoPlan : HostStatus → PlanFault → Made → Made → Type 0
+EndsNoPlan result no_plan.MissingPart old new =
+    EndsText status.MissingPart result missing_text (MakesNothing old new) old new
+EndsNoPlan result (no_plan.Script fault) old new = EndsRefused result fault old new
+
+-- how an input ends on `bridge`, by what it is: a plan, which was run, or its first fault
+abbrev pub EndsPlanInput : HostStatus → Result PlanText PlanFault → Made → Made → Type 0
+EndsPlanInput result (Ok plan) old new = EndsPlan result plan old new
+EndsPlanInput result (Err fault) old new = EndsNoPlan result fault old new
+
+-- the whole input was read, and is this plan
+abbrev pub IsPlanRead : PlanText → Option (List ℕ) → Option (List ℕ) → Type 0
+IsPlanRead plan left left' =
+    (bytes : List ℕ) × IsWhole most_plan bytes left left' × (plan_of bytes ≡ Ok plan)
+
 -- the status of a verdict
 abbrev pub status_on : Judgement → HostStatus
 status_on Yes = status.Done
@@ -282,6 +352,12 @@ Runs how result fed fed' old new =
 abbrev pub Judges : HostStatus → Fed → Fed → Made → Made → Type 0
 Judges result fed fed' old new =
     Takes most_checked (λ bytes. EndsParts result (parts_in bytes) old new)
+    (EndsRefused result too_large old new) result fed fed' old new
+
+-- on `bridge` the plan that is read is run, or its first fault told
+abbrev pub Bridges : HostStatus → Fed → Fed → Made → Made → Type 0
+Bridges result fed fed' old new =
+    Takes most_plan (λ bytes. EndsPlanInput result (plan_of bytes) old new)
     (EndsRefused result too_large old new) result fed fed' old new
 
 -- on `image` the table image that is read is shown, or its fault told
@@ -322,6 +398,7 @@ pub record Serves (wanted : Option Task) (result : HostStatus) (fed fed' : Fed)
   pub generates : (number : ℕ) → wanted ≡ Some (task.Generate number) →
       Generates result number fed fed' old new
   pub soaks : (number : ℕ) → wanted ≡ Some (task.Soak number) → Soaks result number fed fed' old new
+  pub bridges : wanted ≡ Some task.Bridge → Bridges result fed fed' old new
   pub judges : wanted ≡ Some task.Check → Judges result fed fed' old new
   pub shows : wanted ≡ Some task.ShowImage → Shows result fed fed' old new
   pub packs : (name : List ℕ) (offset sub : ℕ) → wanted ≡ Some (task.Pack name offset sub) →
@@ -348,6 +425,14 @@ HasCauses (status.Image fault) fed fed' old new = Unit {0}
 abbrev pub Completes : HostStatus → Fed → Fed → Made → Made → Type 0
 Completes result fed fed' old new =
     (input : List ℕ) (script : ScriptText) → fed.left ≡ Some input → grammar input ≡ Ok script →
+    ¬ Rose fed.faults fed'.faults → ¬ Rose old.faults new.faults →
+    (result ≡ status.Done) ⊎ IsNoMemory result
+
+-- If the input is shown and is a plan, and neither count of faults rose, all was done or there was
+-- no memory.
+abbrev pub CompletesPlan : HostStatus → Fed → Fed → Made → Made → Type 0
+CompletesPlan result fed fed' old new =
+    (input : List ℕ) (plan : PlanText) → fed.left ≡ Some input → plan_of input ≡ Ok plan →
     ¬ Rose fed.faults fed'.faults → ¬ Rose old.faults new.faults →
     (result ≡ status.Done) ⊎ IsNoMemory result
 
@@ -404,6 +489,21 @@ Headline result fed fed' old new =
     × IsShown old.shown new.shown histories
     × Grew old.written new.written (report script histories)
 
+-- The headline of a bridge: where all was done, the whole input was read and is a plan, and there
+-- are histories of both sides by which each message of a route goes over the bridge once and in
+-- order (`IsBridged`): on each side both are legal under the script's configuration and merge the
+-- calls of its applications, and what the bridge sends on side 2 is what its pipe received on
+-- side 1. These the audit was shown, those of side 1 first, and the reports of both were written.
+abbrev pub HeadlineOnBridge : HostStatus → Fed → Fed → Made → Made → Type 0
+HeadlineOnBridge result fed fed' old new =
+    result ≡ status.Done → (bytes : List ℕ) × (plan : PlanText) × (one : Histories)
+    × (two : Histories)
+    × IsWhole most_plan bytes fed.left fed'.left
+    × (plan_of bytes ≡ Ok plan)
+    × IsBridged plan one two
+    × AreShown old.shown new.shown one two
+    × Grew old.written new.written (both_reports plan one two)
+
 -- What is outside: a source, and what was made.
 pub record Outside : Type 0 where
   pub fed : Fed
@@ -427,6 +527,10 @@ pub record Served (wanted : Option Task) (result : HostStatus)
       Headline result before.fed after.fed before.made after.made
   pub headline : wanted ≡ Some task.Lockstep →
       Headline result before.fed after.fed before.made after.made
+  -- on `bridge` both reports print histories by which each message of a route goes over once and in
+  -- order
+  pub headline_on_bridge : wanted ≡ Some task.Bridge →
+      HeadlineOnBridge result before.fed after.fed before.made after.made
   -- what was read, written and shown, by how it ended
   pub on_threads : wanted ≡ Some task.Run →
       Runs OnThreads result before.fed after.fed before.made after.made
@@ -436,6 +540,8 @@ pub record Served (wanted : Option Task) (result : HostStatus)
       Generates result number before.fed after.fed before.made after.made
   pub soaks : (number : ℕ) → wanted ≡ Some (task.Soak number) →
       Soaks result number before.fed after.fed before.made after.made
+  pub bridges : wanted ≡ Some task.Bridge →
+      Bridges result before.fed after.fed before.made after.made
   pub judges : wanted ≡ Some task.Check →
       Judges result before.fed after.fed before.made after.made
   pub shows : wanted ≡ Some task.ShowImage →
@@ -455,6 +561,8 @@ pub record Served (wanted : Option Task) (result : HostStatus)
       CompletesUnread result before.made after.made
   pub complete_soaks : (number : ℕ) → wanted ≡ Some (task.Soak number) →
       CompletesUnread result before.made after.made
+  pub complete_bridges : wanted ≡ Some task.Bridge →
+      CompletesPlan result before.fed after.fed before.made after.made
   pub complete_judges : wanted ≡ Some task.Check →
       CompletesCheck result before.fed after.fed before.made after.made
   pub complete_shows : wanted ≡ Some task.ShowImage →

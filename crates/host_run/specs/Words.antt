@@ -5,7 +5,7 @@ use Rattle.std.specs.Str.{bytes_eq}
 use Rattle.script_words.specs.Numbers.{is_decimal, value_in}
 use Rattle.tbl_file.specs.Image.{is_table_name}
 use Rattle.host_run.specs.declared.words.Task.{Task}
-use Rattle.host_run.specs.declared.words.Task.TheVariants.{Run, Lockstep, Generate, Soak, Check, ShowImage, Pack}
+use Rattle.host_run.specs.declared.words.Task.TheVariants.{Run, Lockstep, Generate, Soak, Bridge, Check, ShowImage, Pack}
 
 -- the words with the first 64 bytes of one more, where there are fewer than five
 abbrev pub with_word : List (List ℕ) → List ℕ → List (List ℕ)
@@ -17,13 +17,14 @@ decimal_number word =
     if is_decimal word && nat_le (value_in 10 word) 4294967295 then Some (value_in 10 word)
     else None
 
--- what one word asks for: `run`, `lockstep`, `check` or `image`
+-- what one word asks for: `run`, `lockstep`, `bridge`, `check` or `image`
 abbrev pub task_alone : List ℕ → Option Task
 task_alone word =
     if bytes_eq word (codes "run") then Some Run
     else (if bytes_eq word (codes "lockstep") then Some Lockstep
+    else (if bytes_eq word (codes "bridge") then Some Bridge
     else (if bytes_eq word (codes "check") then Some Check
-    else (if bytes_eq word (codes "image") then Some ShowImage else None)))
+    else (if bytes_eq word (codes "image") then Some ShowImage else None))))
 
 -- what a word asks for with a number behind it: `gen N` or `soak N`
 abbrev pub task_with : List ℕ → List ℕ → Option Task
@@ -52,13 +53,14 @@ task_of (word ∷ second ∷ third ∷ []) = None
 task_of (word ∷ name ∷ offset ∷ sub ∷ []) = task_of_four word name offset sub
 task_of (word ∷ name ∷ offset ∷ sub ∷ other ∷ others) = None
 
--- whether what is asked for needs threads: `run` alone
+-- whether what is asked for needs threads: `run` and `bridge` alone
 abbrev pub needs_threads : Option Task → Bool
 needs_threads None = false
 needs_threads (Some Run) = true
 needs_threads (Some Lockstep) = false
 needs_threads (Some (Generate number)) = false
 needs_threads (Some (Soak number)) = false
+needs_threads (Some Bridge) = true
 needs_threads (Some Check) = false
 needs_threads (Some ShowImage) = false
 needs_threads (Some (Pack name offset sub)) = false

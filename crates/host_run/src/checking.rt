@@ -5,11 +5,11 @@ ghost use Rattle.app_script.specs.Grammar.{grammar};
 ghost use Rattle.report_check.specs.Parts.{parts_in};
 ghost use Rattle.text_page.specs.Pieces.{Grew, CutShort};
 ghost use Rattle.host_run.specs.Audit.{GuardedAudit};
-ghost use Rattle.host_run.specs.Checking.{illegal_text, legal_text, missing_text};
+ghost use Rattle.host_run.specs.Checking.{illegal_text, legal_text};
 ghost use Rattle.host_run.specs.Serve.{EndsChecked, EndsParts, EndsText, EndsVerdict, Judges, fed_through, made_through};
 ghost use Rattle.host_run.specs.Status.{is_read_fault, is_write_fault};
 
-use crate::fault_line::{TOO_LARGE, refuse};
+use crate::fault_line::{TOO_LARGE, refuse, tell_missing};
 use crate::memory::Memory;
 use crate::reading::{Reading, read_all};
 use crate::status::HostStatus;
@@ -181,20 +181,4 @@ fn write_illegal<K: Sink>(sink: &mut SinkGuard<'_, K>, line: u32) -> Result<(), 
     put_number(sink, &mut page, line);
     put(sink, &mut page, b"\n");
     finish(sink, &mut page)
-}
-
-// Writes that no line separates a script and a report.
-fn tell_missing<K: Sink>(sink: &mut SinkGuard<'_, K>) -> HostStatus
-    requires { sink.old.failed ≡ false }
-    ensures end { (audit : GuardedAudit) →
-        EndsText HostStatus.MissingPart result missing_text ⊥ (made_through sink.old audit)
-        (made_through sink.new audit) }
-    ensures failed { sink.new.failed ≡ is_write_fault result }
-    ensures no_read_fault { is_read_fault result ≡ false }
-    ensures same_sink { sink.new.sink ≡ sink.old.sink }
-{
-    match write_text(sink, b"script:0:MissingPart\n") {
-        Ok(()) => HostStatus::MissingPart,
-        Err(WriteFault) => HostStatus::WriteFault,
-    }
 }

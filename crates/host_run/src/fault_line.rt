@@ -1,14 +1,15 @@
-//! The line that tells what is wrong with a script.
+//! The line that tells what is wrong with an input of scripts.
 ghost use Rattle.std.specs.Prelude.{◌≡◌, ℕ, ◌≤◌, true, false, OnOk, OnErr};
 ghost use Rattle.fsw_base.specs.Outside.{Rose};
 ghost use Rattle.text_page.specs.Pieces.{Grew, CutShort};
 ghost use Rattle.host_run.specs.Audit.{GuardedAudit};
-ghost use Rattle.host_run.specs.Serve.{EndsRefused, fault_text, made_through};
+ghost use Rattle.host_run.specs.Checking.{missing_text};
+ghost use Rattle.host_run.specs.Serve.{EndsRefused, EndsText, fault_text, made_through};
 ghost use Rattle.host_run.specs.Status.{is_read_fault, is_write_fault};
 
 use crate::status::HostStatus;
 use fsw_base::{FaultKind, ScriptFault, Sink, SinkGuard, WriteFault};
-use text_page::{Page, finish, put, put_number};
+use text_page::{Page, finish, put, put_number, write_text};
 
 /// The fault of an input that is longer than any of its word.
 pub(crate) const TOO_LARGE: ScriptFault = ScriptFault {
@@ -55,6 +56,22 @@ pub(crate) fn refuse<K: Sink>(sink: &mut SinkGuard<'_, K>, fault: ScriptFault) -
 {
     match write_fault(sink, fault) {
         Ok(()) => HostStatus::Script(fault),
+        Err(WriteFault) => HostStatus::WriteFault,
+    }
+}
+
+/// Writes that the input lacks a part.
+pub(crate) fn tell_missing<K: Sink>(sink: &mut SinkGuard<'_, K>) -> HostStatus
+    requires { sink.old.failed ≡ false }
+    ensures end { (audit : GuardedAudit) →
+        EndsText HostStatus.MissingPart result missing_text ⊥ (made_through sink.old audit)
+        (made_through sink.new audit) }
+    ensures failed { sink.new.failed ≡ is_write_fault result }
+    ensures no_read_fault { is_read_fault result ≡ false }
+    ensures same_sink { sink.new.sink ≡ sink.old.sink }
+{
+    match write_text(sink, b"script:0:MissingPart\n") {
+        Ok(()) => HostStatus::MissingPart,
         Err(WriteFault) => HostStatus::WriteFault,
     }
 }

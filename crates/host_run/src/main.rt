@@ -4,6 +4,9 @@
 #![tactic(auto)]
 
 mod audit;
+#[cfg(test)]
+mod bridge_tests;
+mod bridging;
 mod checking;
 mod fault_line;
 #[cfg(test)]

@@ -6,8 +6,11 @@ ghost use Rattle.std.specs.Result.{result_ok};
 ghost use Rattle.app_run.specs.Openings.{HaveRoom};
 ghost use Rattle.app_run.specs.Runners.{histories_of};
 ghost use Rattle.app_script.specs.Grammar.{grammar};
+ghost use Rattle.bridge_plan.specs.Grammar.{plan_of};
+ghost use Rattle.bridge_runs.specs.Bridged.{IsBridged};
 ghost use Rattle.fsw_base.specs.Limits.{limits_of};
 ghost use Rattle.run_check.specs.Checks.{IsAnswer};
+ghost use Rattle.sb_bridge.specs.Left.{LeavesSide};
 ghost use Rattle.sb_calls.specs.Core.{apps_of};
 ghost use Rattle.script_generate.specs.Generated.{generated};
 ghost use Rattle.script_runs.specs.Told.{receipts_told};
@@ -16,9 +19,11 @@ ghost use Rattle.host_run.specs.Serve.{IsLeftBy, OnThreads, Rotating};
 
 use app_run::{Finished, Regions, lockstep};
 use app_script::{ReadFail, Script, read_script};
+use bridge_plan::{BridgePlan, PlanFail, PlanFault, read_plan};
 use fsw_base::{Config, Gate, ScriptFault};
 use report_check::check;
 use run_check::Judgement;
+use sb_bridge::{Bridged, run_bridge};
 use script_generate::generate;
 use std::alloc::{AllocError, Global};
 use std::marker::Model;
@@ -99,6 +104,20 @@ impl Memory {
             Ok(script) => Some(Ok(script)),
             Err(ReadFail::Fault(fault)) => Some(Err(fault)),
             Err(ReadFail::Memory(_)) => None,
+        };
+        self.refused = read.is_none();
+        read
+    }
+
+    /// The text as a plan of two buses and a bridge, or what is wrong with it.
+    pub fn plan(&mut self, text: &[u8]) -> Option<Result<BridgePlan, PlanFault>>
+        ensures plan { IfSome result (λ read. read ≡ plan_of text.now) }
+        ensures refused { self.new.refused ≡ is_none result }
+    {
+        let read = match read_plan(self.alloc, text) {
+            Ok(plan) => Some(Ok(plan)),
+            Err(PlanFail::Fault(fault)) => Some(Err(fault)),
+            Err(PlanFail::Memory(_)) => None,
         };
         self.refused = read.is_none();
         read
@@ -192,6 +211,37 @@ impl Memory {
     {
         match run_threads(rt, self.alloc, script, regions, gate) {
             Ok(finished) => Ok(finished),
+            Err(AllocError) => {
+                self.refused = true;
+                Err(self.refusal())
+            }
+        }
+    }
+
+    /// Both services and the receipts of both sides after a run of the plan: each application on a
+    /// thread of its own, with the gate's calls round each line, and a bridge between the sides. It
+    /// may wait.
+    ///
+    /// # Errors
+    /// If memory was refused; by the code, no application ran then.
+    pub fn run_bridge<'r, R: Threads + Wait + Sync, G: Gate>(
+        mut self,
+        rt: &R,
+        plan: &BridgePlan,
+        one: &'r mut Regions,
+        two: &'r mut Regions,
+        gate: &G,
+    ) -> Result<Bridged<'r>, MemoryRefusal>
+        requires one { HaveRoom one.old plan.now.one.limits }
+        requires two { HaveRoom two.old plan.now.two.limits }
+        ensures bridged { IfOk result
+            (λ left. IsBridged plan.now (histories_of left.one.bus left.one.tables)
+            (histories_of left.two.bus left.two.tables)) }
+        ensures one { IfOk result (λ left. LeavesSide plan.now 1 left.one) }
+        ensures two { IfOk result (λ left. LeavesSide plan.now 2 left.two) }
+    {
+        match run_bridge(rt, self.alloc, plan, one, two, gate) {
+            Ok(bridged) => Ok(bridged),
             Err(AllocError) => {
                 self.refused = true;
                 Err(self.refusal())

@@ -5,13 +5,15 @@ ghost use Rattle.text_page.specs.Pieces.{Grew, CutShort};
 ghost use Rattle.run_report.specs.Report.{figures_read, figures_shown, table_figures_read, table_figures_shown};
 ghost use Rattle.sb_calls.specs.Core.{state_of};
 ghost use Rattle.tbl_load.specs.Core.{apps_of as table_apps_of};
-ghost use Rattle.host_run.specs.Serve.{part_shown};
+ghost use Rattle.host_run.specs.Serve.{both_shown, part_shown, side_shown};
 
+use app_run::Finished;
 use bus_words::ReceiptList;
 use fsw_base::{Sink, SinkGuard, WriteFault};
 use run_report::{BusReadings, TableReadings, write_ending, write_report};
 use sb_calls::BusCore;
 use tbl_load::TblCore;
+use text_page::write_text;
 
 /// How much of a report is written.
 #[derive(Clone, Copy, Debug)]
@@ -54,6 +56,53 @@ pub fn write_part<K: Sink>(
         Part::Whole => write_report(&of_bus, &of_tables, receipts, sink),
         Part::Ending => write_ending(&of_bus, &of_tables, sink),
     }
+}
+
+/// Writes the reports of both sides of a bridge, each behind a line with its side. No write through
+/// this guard may have failed before.
+///
+/// # Errors
+/// Those of [`write_part`]: after the failed write nothing more is written.
+pub fn write_both<K: Sink>(
+    one: &Finished<'_>,
+    two: &Finished<'_>,
+    sink: &mut SinkGuard<'_, K>,
+) -> Result<(), WriteFault>
+    requires { sink.old.failed ≡ false }
+    ensures ok { OnOk result (Grew sink.old.written sink.new.written
+        (both_shown one.now two.now)) }
+    ensures none_failed { OnOk result (sink.new.failed ≡ false) }
+    ensures err { OnErr result (CutShort sink.old.written sink.new.written
+        (both_shown one.now two.now)) }
+    ensures failed { OnErr result (sink.new.failed ≡ true) }
+    ensures cause { OnErr result (Rose sink.old.faults sink.new.faults) }
+    ensures never_falls { sink.old.faults ≤ sink.new.faults }
+    ensures same_sink { sink.new.sink ≡ sink.old.sink }
+{
+    write_side(b"side 1\n", one, sink)?;
+    write_side(b"side 2\n", two, sink)
+}
+
+// Writes a line, and behind it the report of a side of a bridge.
+fn write_side<K: Sink>(
+    line: &[u8],
+    side: &Finished<'_>,
+    sink: &mut SinkGuard<'_, K>,
+) -> Result<(), WriteFault>
+    requires { sink.old.failed ≡ false }
+    ensures ok { OnOk result (Grew sink.old.written sink.new.written
+        (side_shown line.now side.now)) }
+    ensures none_failed { OnOk result (sink.new.failed ≡ false) }
+    ensures err { OnErr result (CutShort sink.old.written sink.new.written
+        (side_shown line.now side.now)) }
+    ensures failed { OnErr result (sink.new.failed ≡ true) }
+    ensures cause { OnErr result (Rose sink.old.faults sink.new.faults) }
+    ensures never_falls { sink.old.faults ≤ sink.new.faults }
+    ensures same_sink { sink.new.sink ≡ sink.old.sink }
+{
+    write_text(sink, line)?;
+    let receipts = side.receipts.as_slice();
+    write_part(&side.bus, &side.tables, receipts, Part::Whole, sink)
 }
 
 // What a report shows of a bus.

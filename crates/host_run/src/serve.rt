@@ -10,6 +10,7 @@ ghost use Rattle.host_run.specs.Status.{is_read_fault, is_write_fault};
 ghost use Rattle.host_run.specs.Words.{needs_threads, task_of};
 
 use crate::audit::{Audit, AuditGuard};
+use crate::bridging::serve_bridge;
 use crate::checking::check_input;
 use crate::fault_line::{TOO_LARGE, refuse};
 use crate::images::{Head, pack, show_image};
@@ -32,13 +33,15 @@ use text_page::write_text;
 
 // Which words the program knows: each of their forms, as `Words::task` reads them.
 const USAGE: &[u8] =
-    b"usage: run | lockstep | gen N | soak N | check | image | pack NAME OFFSET SUB\n";
+    b"usage: run | lockstep | gen N | soak N | check | image | pack NAME OFFSET SUB | bridge\n";
 
-// By what applications run on threads: the runtime, and the gate round their lines.
+/// By what applications run on threads.
 #[derive(Drop)]
-struct ByThreads<'a, R, G> {
-    rt: &'a R,
-    gate: &'a G,
+pub(crate) struct ByThreads<'a, R, G> {
+    /// The runtime.
+    pub(crate) rt: &'a R,
+    /// The gate round their lines.
+    pub(crate) gate: &'a G,
 }
 
 /// Does what the words say. On `run` it reads a script from the source to its end, runs each of its
@@ -53,26 +56,29 @@ struct ByThreads<'a, R, G> {
 /// bytes, and writes the image of them with this name, of 1 to 39 visible ASCII characters, and
 /// with these numbers, which are spelled like N. On `check` it reads a script, a line `---` and a
 /// report to the end, and writes `legal` where the report is that of a run of the script, else
-/// `illegal:N`, N being the first line up to which it is no run's.
+/// `illegal:N`, N being the first line up to which it is no run's. On `bridge` it reads a plan of
+/// two buses to the end, runs the applications of both on threads with a bridge between them, shows
+/// the services of side 1 and then those of side 2 to the audit, and writes `side 1`, the report of
+/// side 1, `side 2` and the report of side 2; this may wait, as on `run`.
 ///
 /// - `Usage`, on all other words: nothing is read, and the usage line is written.
-/// - `Script`, where the input is no script, or is longer than 1,048,576 bytes, on `check` than
-///   33,554,432; at most one byte more than that is read. The line of the first fault is written;
-///   by the code, no application ran.
+/// - `Script`, where the input is no script, on `bridge` no plan, or is longer than 1,048,576
+///   bytes, on `bridge` than 2,097,152, on `check` than 33,554,432; at most one byte more than that
+///   is read. The line of the first fault is written; by the code, no application ran.
 /// - `ReadFault`, only where the source's count of faults rose, or stands at its last value:
 ///   nothing is written.
 /// - `WriteFault`, only where the sink's count of faults rose, or stands at its last value: a front
 ///   of the text due is written.
 /// - `NoMemory`, never on other words, and only after a request for memory was refused: nothing is
 ///   written; by the code, no application ran.
-///
-/// - `MissingPart`, on `check` where no line is `---`; the line `script:0:MissingPart` is written.
+/// - `MissingPart`, on `check` where no line is `---`, and on `bridge` where fewer than two are;
+///   the line `script:0:MissingPart` is written.
 /// - `Illegal`, on `check` where the report is no run's.
 /// - `Image`, on `image` where the input is no table image, and on `pack` where it has no byte; on
 ///   both where it has more than 1,048,576 bytes of a table. The line of the fault is written.
 ///
-/// On every word but `run` it returns: nothing that it does then waits. On `gen N` and `soak N` no
-/// answer but `Done`, `WriteFault` and `NoMemory` comes.
+/// On every word but `run` and `bridge` it returns: nothing that it does then waits. On `gen N` and
+/// `soak N` no answer but `Done`, `WriteFault` and `NoMemory` comes.
 pub fn serve<R: Threads + Wait + Sync, S: Source, K: Sink, G: Gate, A: Audit>(
     rt: &R,
     alloc: Global,
@@ -121,7 +127,8 @@ fn serve_guarded<R: Threads + Wait + Sync, G: Gate, S: Source, K: Sink, A: Audit
     status
 }
 
-// Does what the words say. All but `run` go to `serve_alone`, which has no runtime, so it returns.
+// Does what the words say. All but `run` and `bridge` go to `serve_alone`, which has no runtime, so
+// it returns.
 fn serve_words<R: Threads + Wait + Sync, G: Gate, S: Source, K: Sink, A: Audit>(
     threads: &ByThreads<'_, R, G>,
     memory: Memory,
@@ -142,10 +149,10 @@ fn serve_words<R: Threads + Wait + Sync, G: Gate, S: Source, K: Sink, A: Audit>(
     ensures same_sink { sink.new.sink ≡ sink.old.sink }
     ensures same_audit { audit.new.audit ≡ audit.old.audit }
 {
-    if words.need_threads() {
-        serve_on_threads(threads, memory, source, sink, audit)
-    } else {
-        serve_alone(memory, words, source, sink, audit)
+    match words.task() {
+        Some(Task::Run) => serve_on_threads(threads, memory, source, sink, audit),
+        Some(Task::Bridge) => serve_bridge(threads, memory, source, sink, audit),
+        _ => serve_alone(memory, words, source, sink, audit),
     }
 }
 
@@ -174,7 +181,7 @@ fn serve_on_threads<R: Threads + Wait + Sync, G: Gate, S: Source, K: Sink, A: Au
     }
 }
 
-// Does what all words but `run` say. It has no runtime, so it waits for nothing.
+// Does what all words but `run` and `bridge` say. It has no runtime, so it waits for nothing.
 fn serve_alone<S: Source, K: Sink, A: Audit>(
     mut memory: Memory,
     words: &Words,
@@ -210,7 +217,7 @@ fn serve_alone<S: Source, K: Sink, A: Audit>(
             pack(&mut memory, &head, source, sink)
         }
         None => tell_usage(sink),
-        Some(Task::Run) => unreachable!(),
+        Some(Task::Run | Task::Bridge) => unreachable!(),
     }
 }
 

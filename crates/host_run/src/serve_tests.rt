@@ -40,7 +40,7 @@ pub(crate) const REPORT: &[u8] = b"fsw 1\nbus\n\
 
 /// What is printed on words that the program doesn't know.
 const USAGE: &[u8] =
-    b"usage: run | lockstep | gen N | soak N | check | image | pack NAME OFFSET SUB\n";
+    b"usage: run | lockstep | gen N | soak N | check | image | pack NAME OFFSET SUB | bridge\n";
 
 /// How many calls of a source or a sink are made to fail, one in each run.
 const CALLS: u32 = 60;

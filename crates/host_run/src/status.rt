@@ -24,8 +24,7 @@ pub enum HostStatus {
     WriteFault,
     /// There was no memory; nothing was written, and, by the code, no application ran.
     NoMemory(MemoryRefusal),
-    /// The input has no line `---` between a script and a report; the line that says so was
-    /// written.
+    /// The input lacks a part, since it has too few lines `---`; the line that says so was written.
     MissingPart,
     /// The report is that of no run of its script; the number, from 1, of the first line up to
     /// which it isn't was written.

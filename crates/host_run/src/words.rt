@@ -26,6 +26,9 @@ pub enum Task {
     Generate(u32),
     /// `soak N`: to run the generated script of this number, and to write the end of its report.
     Soak(u32),
+    /// `bridge`: to run both scripts of the plan that is read, each on a bus of its own with a
+    /// bridge between them, and to write both reports.
+    Bridge,
     /// `check`: to write whether the report that is read is that of a run of the script before it.
     Check,
     /// `image`: to write what the table image is that is read.
@@ -115,11 +118,11 @@ impl Words {
         }
     }
 
-    /// Whether they ask for threads, as `run` alone does.
+    /// Whether they ask for threads, as `run` and `bridge` alone do.
     pub fn need_threads(&self) -> bool
         ensures { result ≡ needs_threads (task_of self.now) }
     {
-        matches!(self.task(), Some(Task::Run))
+        matches!(self.task(), Some(Task::Run | Task::Bridge))
     }
 
     /// What they ask for; None where the program doesn't know them.
@@ -148,6 +151,8 @@ fn task_alone(word: &[u8]) -> Option<Task>
         Some(Task::Run)
     } else if word == b"lockstep".as_slice() {
         Some(Task::Lockstep)
+    } else if word == b"bridge".as_slice() {
+        Some(Task::Bridge)
     } else if word == b"check".as_slice() {
         Some(Task::Check)
     } else if word == b"image".as_slice() {

@@ -1,4 +1,4 @@
-use Rattle.host_run.proofs.Ends.{served}
+use Rattle.host_run.proofs.Served.{served}
 use Rattle.host_run.proofs.serve.serve.Goals as goal
 
 pub returns : goal.returns

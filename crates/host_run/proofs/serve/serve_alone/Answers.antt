@@ -1,6 +1,6 @@
 use Rattle.std.proofs.Common.{ℕ, List, refl, sym, subst, ◌∙◌}
 use Rattle.host_run.specs.Serve.{Packs, fed_through, made_through}
-use Rattle.host_run.proofs.Ends.{serves-judges, serves-other, serves-packs, serves-shows, serves-soaks}
+use Rattle.host_run.proofs.Served.{serves-judges, serves-other, serves-packs, serves-shows, serves-soaks}
 use Rattle.host_run.proofs.serve.serve_alone.Goals as goal
 
 pub returns-in-None-clause-serves : goal.returns-in-None-clause-serves

@@ -1,6 +1,6 @@
 use Rattle.std.proofs.Common.{rules, ap}
 use Rattle.host_run.specs.Serve.{fed_through}
-use Rattle.host_run.proofs.Ends.{fed-as, made-as, serves-as}
+use Rattle.host_run.proofs.Served.{fed-as, made-as, serves-as}
 use Rattle.host_run.proofs.serve.serve_guarded.Goals as goal
 
 pub returns : goal.returns
