@@ -12,10 +12,10 @@ use Rattle.run_check.specs.Openings.{bus_part, head}
 use Rattle.run_check.proofs.Fronts.{line_ends-append}
 use Rattle.run_check.proofs.Judgements.{judged_is_answered}
 use Rattle.replay_parts.specs.Compared.{Compared}
+use Rattle.replay_parts.proofs.LineTexts.{entries_push}
 use Rattle.replay_parts.proofs.Passing.{wrong_behind}
 use Rattle.bus_replay.specs.Replayed.{AreWrongLines}
 use Rattle.bus_replay.specs.Replays.{IsWrongNext, Nobodys, Another}
-use Rattle.bus_replay.proofs.LineTexts.{entries_push}
 
 pub first_wrong : (script : ScriptText) (from : Compared) (line : ℕ) → IsScript script → AreWrongLines script from line → from.lines ≡ line_ends (head script) →
     IsAnswer script (head script ++ from.rest) (No line)
@@ -48,7 +48,7 @@ first_wrong script from line fine are lines = by are.wrong
     pushed : (e : Entry) → part ++ entry_text (length are.history + 1) e ≡ bus_part script (are.history ++ e ∷ [])
     pushed e =
         append_assoc (head script) (entries_text are.history) (entry_text (length are.history + 1) e)
-        ∙ ap (λ t. head script ++ t) (sym (entries_push are.history e))
+        ∙ ap (λ t. head script ++ t) (sym (entries_push entry_text are.history e))
 
     by : IsWrongNext script are.history are.then line → IsAnswer script bytes (No line)
     by (Nobodys missing nobody is) =

@@ -2,7 +2,6 @@ mod Nexts
 mod Behind
 mod Entering
 mod Stopping
-mod LineTexts
 mod Judging
 mod Passed
 mod Stepping

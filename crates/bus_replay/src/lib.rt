@@ -25,8 +25,6 @@
 
 mod all_lines;
 mod calls;
-mod lines;
-mod numbers;
 mod place;
 mod receipts;
 mod replay;

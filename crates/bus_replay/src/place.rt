@@ -4,7 +4,7 @@ ghost use Rattle.std.specs.Option.{option_map, option_to_list};
 ghost use Rattle.std.specs.Result.{OnOk};
 ghost use Rattle.bus_words.specs.Entries.{call_of};
 ghost use Rattle.list_bus.specs.Standings.{standing_in};
-ghost use Rattle.run_check.specs.Places.{behind, first_place, gone_on, looked, made_at, passed, past, settled};
+ghost use Rattle.run_check.specs.Places.{behind, first_place, looked, made_at, passed, past, settled};
 ghost use Rattle.bus_replay.specs.Places.{call_at, content_at, is_before_unseen, line_call_at, place_of, settled_line, waits};
 
 use crate::receipts::{got_receipt, shown_receipt};

@@ -1,5 +1,5 @@
 //! The bus played again, line by line.
-ghost use Rattle.std.specs.Prelude.{◌≡◌, ℕ, ◌+◌, ◌-◌, ◌≤◌, ◌∷◌, ◌++◌, List, [], length, slice_get, Some, None, IfOk, IfSome};
+ghost use Rattle.std.specs.Prelude.{◌≡◌, ℕ, ◌+◌, ◌-◌, ◌≤◌, List, [], length, slice_get, Some, None, IfOk, IfSome};
 ghost use Rattle.std.specs.Option.{option_map};
 ghost use Rattle.std.specs.Result.{OnOk};
 ghost use Rattle.bus_words.specs.declared.history.Entry.{Entry};
@@ -10,14 +10,12 @@ ghost use Rattle.bus_replay.specs.Places.{place_of};
 ghost use Rattle.bus_replay.specs.Replays.{IsNextCaller, IsReplayed, IsSettled, IsUnderWay, Steps, first_place, have_all_ended};
 
 use crate::calls::{brings, check_playable, makes_entry};
-use crate::lines::EntryLine;
-use crate::numbers::one_more;
 use crate::place::AppPlace;
 use app_script::Script;
 use bus_words::BusEntry;
 use fsw_base::AppNo;
 use list_bus::{ListBus, ListStanding};
-use replay_parts::{ComparedText, MadeReceipt};
+use replay_parts::{ComparedText, EntryLine, MadeReceipt, one_more};
 use std::alloc::{AllocError, Global};
 use std::marker::Model;
 

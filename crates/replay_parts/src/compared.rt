@@ -1,5 +1,5 @@
 //! A report that is compared, from its front, with what has to be there.
-ghost use Rattle.std.specs.Prelude.{◌≡◌, ◌↔◌, ℕ, ◌+◌, ◌≤◌, [], ◌++◌, None, codes, decimal, IsTrue, IfSome, IfOk};
+ghost use Rattle.std.specs.Prelude.{◌≡◌, ◌↔◌, ℕ, ◌+◌, ◌^◌, ◌<◌, ◌≤◌, [], ◌++◌, None, codes, decimal, IsTrue, IfSome, IsOk, IfOk};
 ghost use Rattle.run_check.specs.Fronts.{wrong_line};
 ghost use Rattle.run_check.specs.Judged.{Begins, entry_head};
 ghost use Rattle.replay_parts.specs.Compared.{Takes};
@@ -81,10 +81,12 @@ impl<'a> ComparedText<'a> {
     /// The number, from 1, of the line in which the report isn't this text from here on.
     ///
     /// # Errors
-    /// `AllocError` where the number doesn't have 32 bits.
+    /// `AllocError` exactly where the number doesn't have 32 bits.
     pub fn wrong_line(&self, text: &[u8]) -> Result<u32, AllocError>
-        ensures { IfOk result
+        ensures line { IfOk result
             (λ line. line ≡ self.now.lines + wrong_line self.now.rest text.now) }
+        ensures fits { IsOk result ↔
+            (self.now.lines + wrong_line self.now.rest text.now < 2 ^ 32) }
     {
         let same = alike_len(self.rest, text);
         let line = self.lines + line_ends(&self.rest[..same]) + 1;

@@ -1,6 +1,6 @@
 //! What the replays of the bus and of the tables share, for the check of reports: a report that is
-//! compared, from its front, with what has to be there, text that is kept in memory, and receipts
-//! with the places of the lines that made them.
+//! compared, from its front, with what has to be there, text that is kept in memory, the latest
+//! entry's line, and receipts with the places of the lines that made them.
 //!
 //! A text is past what it was compared with, and tells the line in which it isn't another text.
 //!
@@ -19,13 +19,18 @@
 //!   one application with whose number an entry's line begins; `wrong_line` is the number, from 1,
 //!   of the line in which the report isn't a text.
 //! - `KeptText` is a sink that fails only where memory runs out.
+//! - `EntryLine` keeps the line of one entry, of either service (`HasLine`), and nothing else.
 #![tactic(auto)]
 
 mod compared;
 mod kept;
+mod lines;
+mod numbers;
 mod receipts;
 mod slices;
 
 pub use compared::ComparedText;
 pub use kept::KeptText;
+pub use lines::{EntryLine, HasLine};
+pub use numbers::one_more;
 pub use receipts::MadeReceipt;

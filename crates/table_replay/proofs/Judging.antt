@@ -15,10 +15,10 @@ use Rattle.run_check.specs.Openings.{bus_part}
 use Rattle.run_check.proofs.Fronts.{line_ends-append}
 use Rattle.run_check.proofs.Judgements.{judged_is_answered}
 use Rattle.replay_parts.specs.Compared.{Compared}
+use Rattle.replay_parts.proofs.LineTexts.{entries_push}
 use Rattle.replay_parts.proofs.Passing.{wrong_behind}
 use Rattle.table_replay.specs.Replayed.{AreWrongLines, before_tables}
 use Rattle.table_replay.specs.Replays.{IsWrongNext, Nobodys, Another}
-use Rattle.table_replay.proofs.LineTexts.{entries_push}
 
 pub first_wrong : (script : ScriptText) (from : Compared) (line : ℕ) → IsScript script → AreWrongLines script from line → (bus : List BusEntry) → IsBegun script bus → IsWhole script bus →
     from.lines ≡ line_ends (before_tables script bus) → IsAnswer script (before_tables script bus ++ from.rest) (No line)
@@ -69,4 +69,4 @@ first_wrong script from line fine are bus begun whole lines = by are.wrong
             append_assoc (bus_part script bus) (codes "tables\n" ++ table_entries_text are.history) (table_entry_text (length are.history + 1) e)
             ∙ ap (λ t. bus_part script bus ++ t)
             (append_assoc (codes "tables\n") (table_entries_text are.history) (table_entry_text (length are.history + 1) e)
-            ∙ ap (λ t. codes "tables\n" ++ t) (sym (entries_push are.history e)))
+            ∙ ap (λ t. codes "tables\n" ++ t) (sym (entries_push table_entry_text are.history e)))

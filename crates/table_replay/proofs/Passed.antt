@@ -2,14 +2,14 @@
 use Rattle.std.proofs.Common.{◌≡◌, ℕ, ◌+◌, ◌<◌, List, [], ◌∷◌, ◌++◌, length, ap, sym, ◌∙◌, subst}
 use Rattle.tbl_words.specs.declared.history.Entry.{Entry}
 use Rattle.app_script.specs.Script.{ScriptText}
-use Rattle.run_report.specs.TableText.{table_entries_text}
+use Rattle.run_report.specs.TableText.{table_entries_text, table_entry_text}
 use Rattle.run_check.specs.Begun.{AreBegunTables, AreWholeTables}
 use Rattle.replay_parts.specs.Compared.{Compared, GoesPast}
+use Rattle.replay_parts.proofs.LineTexts.{less_left, past_entry}
 use Rattle.replay_parts.proofs.Passing.{goes_nowhere}
 use Rattle.table_replay.specs.declared.replay.TableStep.TheVariants.{Entered, Whole, Wrong}
 use Rattle.table_replay.specs.Replayed.{AreWholeLines, AreWrongLines}
 use Rattle.table_replay.specs.Replays.{IsReplayed, IsUnderWay, IsWrongNext, Replay, Steps}
-use Rattle.table_replay.proofs.LineTexts.{less_left, past_entry}
 
 -- the replay is behind a history, and the text past its lines
 pub record Passed (script : ScriptText) (from : Compared) (r : Replay) (to : Compared) : Type 0 where
@@ -35,14 +35,14 @@ passed_more script from r now mid to at steps =
       history = at.history ++ step.1.entry ∷ [];
       same = step.0 ∙ at.same;
       replayed = step.1.replayed;
-      text = past_entry from mid to at.history step.1.entry at.text step.1.text;
+      text = past_entry table_entry_text from mid to at.history step.1.entry at.text step.1.text;
     }
 
 pub passed_less : (script : ScriptText) (from : Compared) (r now : Replay) (mid to : Compared) → Passed script from r mid →
     ((history : List Entry) → IsReplayed history r → Steps history r now mid to Entered) → length to.rest < length mid.rest
 passed_less script from r now mid to at steps =
     let step = steps at.history at.replayed in
-    less_left mid to (length at.history + 1) step.1.entry step.1.text
+    less_left mid to _ step.1.text
 
 -- where nothing is missing
 pub passed_whole : (script : ScriptText) (from : Compared) (r now : Replay) (mid to : Compared) → Passed script from r mid →

@@ -28,8 +28,6 @@
 #![tactic(auto)]
 
 mod all_lines;
-mod lines;
-mod numbers;
 mod place;
 mod receipts;
 mod replay;

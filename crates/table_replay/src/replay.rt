@@ -1,5 +1,5 @@
 //! The tables played again, line by line.
-ghost use Rattle.std.specs.Prelude.{◌≡◌, ℕ, ◌+◌, ◌-◌, ◌≤◌, ◌∷◌, ◌++◌, List, [], length, slice_get, Some, None, false, IfOk, IfSome};
+ghost use Rattle.std.specs.Prelude.{◌≡◌, ℕ, ◌+◌, ◌-◌, ◌≤◌, List, [], length, slice_get, Some, None, false, IfOk, IfSome};
 ghost use Rattle.std.specs.Result.{OnOk};
 ghost use Rattle.tbl_words.specs.declared.history.Entry.{Entry};
 ghost use Rattle.tbl_words.specs.Entries.{entry_of};
@@ -8,13 +8,11 @@ ghost use Rattle.tbl_words.specs.Uses.{greater_of};
 ghost use Rattle.run_check.specs.Judged.{Begins, entry_head};
 ghost use Rattle.table_replay.specs.Replays.{IsReplayed, IsUnderWay, IsNextCaller, Steps, first_place, have_all_ended, settled};
 
-use crate::lines::EntryLine;
-use crate::numbers::one_more;
 use crate::place::AppPlace;
 use app_script::Script;
 use fsw_base::AppNo;
 use list_tables::ListTables;
-use replay_parts::{ComparedText, MadeReceipt};
+use replay_parts::{ComparedText, EntryLine, MadeReceipt, one_more};
 use std::alloc::{AllocError, Global};
 use std::marker::Model;
 use tbl_words::{TblEntry, TblUse};

@@ -9,5 +9,5 @@ returns-then-not-is_at_end c =
     let past = taken c.take.result at to c.args.tail.now (search rules) c.take.ensures in
     let more : c.is_at_end.result ≡ false = search rules in (
       more_behind at to c.args.tail.now past (λ none. true≢false (sym (c.is_at_end.ensures.1 none) ∙ more)),
-      c.in_ok-wrong_line-2.ensures ∙ line_behind_end at to c.args.tail.now past,
+      c.in_ok-wrong_line-2.ensures.line ∙ line_behind_end at to c.args.tail.now past,
     )
