@@ -686,8 +686,8 @@ static inline uint32_t fsw_allocate_buffer(struct fsw_core *core, uint32_t app, 
  * Sends the packet that a buffer of the caller's begins with, as long as its header says, without a
  * copy; else as fsw_transmit. The message has the buffer's number. If nobody subscribes to the id,
  * the buffer is gone too. If the call is accepted, `buffer` is all zero, and nothing more is
- * written there; if it is refused, the caller keeps the buffer, with the bytes that were asked for;
- * of those behind them it is not promised. `sent` may be null.
+ * written there. If it is refused, the caller keeps the buffer with the bytes that were asked for;
+ * the block's other bytes may have changed. `sent` may be null.
  *
  * FSW_SB_BUFFER_INVALID if `buffer` is empty, or another application's; FSW_SB_BAD_ARGUMENT if its
  * first bytes, as many as were asked for, don't begin with a packet. Both are counted.

@@ -1,5 +1,5 @@
 //! One pool of applications, with its grants.
-ghost use Rattle.std.specs.Prelude.{◌≡◌, ◌≢◌, ◌==◌, ◌&&◌, nat_le, nat_lt, ℕ, ◌+◌, ◌-◌, ◌*◌, ◌<◌, ◌≤◌, ◌^◌, if◌then◌else◌, true, not, [], length, map, filter, vec_capacity, slice_index, All, IsTrue, IfOk, IfSome, None};
+ghost use Rattle.std.specs.Prelude.{◌≡◌, ◌≢◌, ◌==◌, ◌&&◌, nat_le, nat_lt, ℕ, ◌+◌, ◌-◌, ◌*◌, ◌<◌, ◌%◌, ◌≤◌, ◌^◌, if◌then◌else◌, true, not, [], length, map, filter, vec_capacity, slice_index, All, IsTrue, IfOk, IfSome, None};
 ghost use Rattle.std.specs.Result.{result_err};
 ghost use Rattle.fsw_base.specs.PoolAccounts.{counted, overhead};
 ghost use Rattle.es_pool.specs.Account.{IsAccountOf};
@@ -7,7 +7,7 @@ ghost use Rattle.es_pool.specs.Pool.{class_at, is_out, given_back};
 ghost use Rattle.pool_words.specs.Grants.{new_pool, get_answer, after_get, put_answer, after_put, after_end, figures_of, held_by, class_under, pool_account};
 ghost use Rattle.app_pools.specs.Inside.{grant_of, account_in, AreLent, AreRising, HasNumber, AreGivenBack};
 
-use es_pool::{BlockNo, Pool};
+use es_pool::{BlockNo, Pool, blocks_lie_apart};
 use fsw_base::{AppNo, BlockSizes, EsStatus, PoolStats};
 use std::alloc::{AllocError, Global};
 use std::marker::Model;
@@ -29,8 +29,7 @@ struct Lent {
 /// Where the block of a grant lies.
 #[derive(Clone, Copy, Debug, PartialEq, Eq)]
 pub struct GrantBlock {
-    /// Where it begins, in bytes from the pool's first byte on: 16 or more, and by the code a
-    /// multiple of 8.
+    /// Where it begins, in bytes from the pool's first byte on: 16 or more, and a multiple of 8.
     pub offset: u32,
     /// Its bytes.
     pub size: u32,
@@ -159,6 +158,7 @@ impl AppPool {
     pub(crate) fn block(&self, grant: u64) -> Result<GrantBlock, EsStatus>
         ensures refused { result_err result ≡ result_err (put_answer self.now grant) }
         ensures behind { IfOk result (λ block. overhead ≤ block.offset) }
+        ensures aligned { IfOk result (λ block. block.offset % 8 ≡ 0) }
         ensures within { IfOk result (λ block. block.offset + block.size ≤ self.now.bytes) }
         ensures size { IfOk result (λ block. block.size ≡
             slice_index self.now.sizes (class_under self.now.out grant)) }
@@ -168,6 +168,9 @@ impl AppPool {
         }
         match place_of(&self.lent, grant) {
             Some(place) => {
+                // Do nothing; the proof learns of them where the blocks lie.
+                self.pool.recall_whole();
+                blocks_lie_apart();
                 let block = self.lent[place].block;
                 Ok(GrantBlock {
                     offset: self.pool.offset_of(block),

@@ -1,5 +1,5 @@
 //! The pools of all applications.
-ghost use Rattle.std.specs.Prelude.{◌≡◌, ◌+◌, ◌-◌, ◌*◌, ◌<◌, ◌≤◌, ◌^◌, ◌++◌, false, [], length, map, take, drop, replicate, slice_index, sum_by, All, IsTrue, IfOk, IfSome, Ok, None};
+ghost use Rattle.std.specs.Prelude.{◌≡◌, ◌+◌, ◌-◌, ◌*◌, ◌%◌, ◌<◌, ◌≤◌, ◌^◌, ◌++◌, false, [], length, map, take, drop, replicate, slice_index, sum_by, All, IsTrue, IfOk, IfSome, Ok, None};
 ghost use Rattle.std.specs.Result.{result_err};
 ghost use Rattle.es_pool.specs.Account.{IsAccountOf};
 ghost use Rattle.fsw_base.specs.PoolAccounts.{overhead};
@@ -140,6 +140,7 @@ impl AppPools {
         ensures refused { result_err result ≡
             result_err (answer_in self.now pool (put_answer (pool_in self.now pool) grant)) }
         ensures behind { IfOk result (λ block. overhead ≤ block.offset) }
+        ensures aligned { IfOk result (λ block. block.offset % 8 ≡ 0) }
         ensures within { IfOk result
             (λ block. block.offset + block.size ≤ (pool_in self.now pool).bytes) }
         ensures size { IfOk result (λ block. block.size ≡

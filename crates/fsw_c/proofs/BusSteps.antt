@@ -15,11 +15,12 @@ use Rattle.bus_words.specs.Bus.{standing_of, waited_on}
 use Rattle.bus_words.specs.Machine.{refused_if}
 use Rattle.pool_words.specs.Grants.{has_numbers}
 use Rattle.sb_plain.specs.Core.{Acts, with_tick, has_send_number}
-use Rattle.sb_plain.specs.Answers.{numbered, named, done, sent, got, waited, pended, pool_told, grant_back, event_told, figures_told}
+use Rattle.sb_plain.specs.Answers.{numbered, named, done, sent, waited, pended, pool_told, grant_back, event_told, figures_told}
 use Rattle.sb_plain.specs.Bags.{KeepsLoans}
 use Rattle.sb_plain.specs.declared.receiving.Pended.{Pended}
 use Rattle.sb_box.specs.declared.refusal.Refusal.{Refusal}
 use Rattle.sb_box.specs.declared.waits.LookAnswer.{LookAnswer}
+use Rattle.sb_box.specs.Answers.{received}
 use Rattle.sb_box.specs.Asked.{unasked_look}
 use Rattle.sb_box.specs.Box.{Boxed, KeepsOtherBags, KeepsOwnBuffers}
 use Rattle.fsw_core.specs.declared.Core.{Core}
@@ -43,8 +44,8 @@ done-form = record { accepted = λ x. refl; refused = λ e. refl }
 pub sent-form : IsForm sb_code sent
 sent-form = record { accepted = λ x. refl; refused = λ e. refl }
 
-pub got-form : IsForm sb_code got
-got-form = record { accepted = λ x. refl; refused = λ e. refl }
+pub received-form : IsForm sb_code received
+received-form = record { accepted = λ x. refl; refused = λ e. refl }
 
 pub pool_told-form : IsForm es_code pool_told
 pool_told-form = record { accepted = λ x. refl; refused = λ e. refl }

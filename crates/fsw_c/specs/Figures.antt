@@ -1,5 +1,5 @@
 -- The figures of the bus as C reads them, and the statuses of the calls that only show something.
-use Rattle.std.specs.Prelude.{◌≡◌, ℕ, ◌+◌, ◌≤◌, ◌==◌, nat_lt, length, slice_index, Option, Some, None, is_some, if◌then◌else◌}
+use Rattle.std.specs.Prelude.{◌≡◌, ℕ, ◌+◌, ◌%◌, ◌≤◌, ◌==◌, nat_lt, length, slice_index, Option, Some, None, is_some, if◌then◌else◌}
 use Rattle.std.specs.Option.{option_map, option_map_or}
 use Rattle.std.specs.Result.{result_err}
 use Rattle.fsw_base.specs.declared.config.PoolStats.{PoolStats}
@@ -128,11 +128,12 @@ abbrev pub block_code : Option Core → ℕ → ℕ → ℕ
 block_code None pool grant = closed_code
 block_code (Some core) pool grant = option_map_or es_code (unshown core pool grant) 0
 
--- the block is of the grant's block size, and lies within the pool, behind its overhead
+-- the block is of the grant's block size, and lies within the pool, behind its overhead, at a
+-- multiple of 8
 abbrev pub ShowsBlock : Option Core → ℕ → ℕ → FswPoolBlock → Type 0
 ShowsBlock old pool grant shown =
     (o : Core) → old ≡ Some o →
-    (overhead ≤ shown.offset)
+    (overhead ≤ shown.offset) × (shown.offset % 8 ≡ 0)
     × (shown.offset + shown.size ≤ (pool_in o.bus.core.whole.bus.pools pool).bytes)
     × (shown.size ≡
     slice_index (pool_in o.bus.core.whole.bus.pools pool).sizes

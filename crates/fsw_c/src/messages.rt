@@ -1,9 +1,8 @@
 //! Messages.
-ghost use Rattle.std.specs.Prelude.{◌≡◌, ◌≢◌, true, IsSome};
+ghost use Rattle.std.specs.Prelude.{◌≡◌, ◌≢◌};
 ghost use Rattle.bus_words.specs.declared.history.Call.TheVariants.{Transmit, Receive, Pend, Look, Housekeeping};
 ghost use Rattle.bus_words.specs.declared.calls.BusAnswer.TheVariants.{Sent, Got};
-ghost use Rattle.sb_box.specs.Asked.{is_application, unasked, unasked_look};
-ghost use Rattle.sb_box.specs.Box.{last_message};
+ghost use Rattle.sb_box.specs.Asked.{unasked, unasked_look};
 ghost use Rattle.fsw_c.specs.BusAnswers.{BusCall, AnswersBus, pipe_waited_on};
 ghost use Rattle.fsw_c.specs.Shown.{ShowsLast, last_shown, shown_length};
 
@@ -11,7 +10,7 @@ use crate::bus_codes::{code_of_call, code_of_look, code_of_pend};
 use crate::codes::CLOSED;
 use crate::handle::FswCore;
 use crate::seen::FswBytes;
-use sb_box::{LookAnswer, SbBox};
+use sb_box::{LookAnswer, ReceivedMessage, SbBox};
 use sb_plain::Pended;
 use std::alloc::Global;
 use std::marker::Brand;
@@ -57,17 +56,6 @@ impl FswMessage {
         ensures number { result.number ≡ number }
     {
         let FswBytes { at, len } = FswBytes::of_any(bus.message(app, pipe));
-        FswMessage { at, len, number }
-    }
-
-    // The same of a message that the application received just now.
-    fn of_received(bus: &SbBox<'static>, app: u32, pipe: u32, number: u64) -> FswMessage
-        requires application { is_application bus.now.core app ≡ true }
-        requires there { IsSome (last_message bus.now.core app pipe) }
-        ensures length { result.len ≡ shown_length (last_shown bus.now app pipe) }
-        ensures number { result.number ≡ number }
-    {
-        let FswBytes { at, len } = FswBytes::of(bus.received_message(app, pipe));
         FswMessage { at, len, number }
     }
 }
@@ -128,6 +116,7 @@ pub extern "C" fn fsw_raw_send_housekeeping(
 
 /// Takes the oldest message from a pipe of the caller's.
 #[unsafe(no_mangle)]
+#[tactic(auto, using(crate::proofs::Shown::last_length))]
 pub extern "C" fn fsw_raw_receive(
     alloc: Global,
     core: &mut FswCore,
@@ -148,10 +137,10 @@ pub extern "C" fn fsw_raw_receive(
         return CLOSED;
     };
     let answer = it.bus.receive::<Brand>(app, pipe, Blank::new(1));
-    if let Ok(Ok(number)) = answer {
-        *message = FswMessage::of_received(&it.bus, app, pipe, number);
-    }
     *core = FswCore::open(it);
+    if let Ok(Ok(ReceivedMessage { number, at, len })) = answer {
+        *message = FswMessage { at, len, number };
+    }
     code_of_call(&answer)
 }
 

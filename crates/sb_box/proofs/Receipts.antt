@@ -12,9 +12,12 @@ use Rattle.bus_words.specs.Acts.{Whole, reads_in}
 use Rattle.bus_words.specs.Pipes.{last_on}
 use Rattle.bus_words.specs.Machine.{Reads, step_with, decided_with, recorded, by_bus, refused_if}
 use Rattle.lend_block.specs.Loan.{LentBytes}
+use Rattle.buf_desc.specs.Held.{Holding, view_at}
 use Rattle.sb_plain.specs.Core.{Plain, Acts}
 use Rattle.sb_plain.specs.Answers.{got}
+use Rattle.sb_plain.specs.Bags.{HasBag}
 use Rattle.sb_box.specs.Box.{last_message}
+use Rattle.sb_box.proofs.Shown.{bytes_due}
 
 -- a receive takes no pipe from its owner
 owns_received : (number : ℕ) (pipes : List Pipe) (app other : ℕ) → owns (with_pipe after_receive number pipes) app other ≡ owns pipes app other
@@ -75,6 +78,14 @@ last_there old new app pipe (Ok number) acts =
 
 -- What a bag's view shows. --
 
+pub seen_last : (core : Plain) (app pipe : ℕ) (bag : Holding LentBytes) → HasBag core app bag → option_map (λ (view : LentBytes). view.bytes) (view_at bag pipe) ≡ last_message core app pipe
+seen_last core app pipe bag has = ap (option_map (λ (view : LentBytes). view.bytes)) (has.views.seen pipe) ∙ bytes_due core app pipe
+
 pub view_there : (found : Option (Bor LentBytes)) (last : Option (List ℕ)) → option_map (λ (view : LentBytes). view.bytes) (option_map (λ (v : Bor LentBytes). v.now) found) ≡ last → IsSome last → IsSome found
 view_there None last same is = subst IsSome (sym same) is
 view_there (Some view) last same is = refl
+
+pub length_shown : (found : Option (Bor LentBytes)) (view : Bor LentBytes) (last : Option (List ℕ)) → found ≡ Some view → option_map (λ (view : LentBytes). view.bytes) (option_map (λ (v : Bor LentBytes). v.now) found) ≡ last →
+    Some (length view.now.bytes) ≡ option_map (λ (bytes : List ℕ). length bytes) last
+length_shown found view last is same =
+    ap (option_map (λ (bytes : List ℕ). length bytes)) (sym (ap (λ (o : Option (Bor LentBytes)). option_map (λ (view : LentBytes). view.bytes) (option_map (λ (v : Bor LentBytes). v.now) o)) is) ∙ same)

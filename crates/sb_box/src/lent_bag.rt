@@ -7,16 +7,20 @@ ghost use Rattle.bus_words.specs.declared.history.Call.TheVariants.{Allocate, Tr
 ghost use Rattle.buf_desc.specs.Block.{Unsent};
 ghost use Rattle.buf_desc.specs.Held.{view_at, buffer_at, bytes_at, without_first};
 ghost use Rattle.sb_plain.specs.Core.{MayAct, Acts, with_tick, has_send_number};
-ghost use Rattle.sb_plain.specs.Answers.{numbered, sent, done, got, pended, waited};
+ghost use Rattle.sb_plain.specs.Answers.{numbered, sent, done, pended, waited};
 ghost use Rattle.sb_plain.specs.Bags.{HasBag, KeepsOtherBags, KeepsBuffers, KeepsLoans};
+ghost use Rattle.sb_box.specs.Answers.{received};
+ghost use Rattle.sb_box.specs.Box.{last_message};
 ghost use Rattle.sb_box.specs.Inside.{IsSeat, seat_of};
 ghost use Rattle.sb_box.specs.Lent.{is_misfit, bytes_in, written, no_buffer, StaysOut, IsGivenOut};
 
 use crate::lent_buffer::LentBuffer;
+use crate::received_message::ReceivedMessage;
 use buf_desc::{Block, Held, Seat};
 use fsw_base::{AppNo, SbStatus};
 use housekeeping::CounterName;
 use lend_block::View;
+use ruled_out::surely_some;
 use sb_plain::{Pended, PlainBus, Sent};
 use std::alloc::{AllocError, Global};
 use std::marker::Model;
@@ -209,23 +213,28 @@ impl<'r> LentBag<'r> {
         answer
     }
 
-    /// [`PlainBus::receive`].
+    /// [`PlainBus::receive`], and where the message lies.
     pub(crate) fn receive<L: Ledger>(
         &mut self,
         core: &mut PlainBus<'r>,
         app: AppNo,
         pipe: u32,
         steps: &mut Steps<L>,
-    ) -> Result<u64, SbStatus>
+    ) -> Result<ReceivedMessage, SbStatus>
         requires may { MayAct core.old app (Receive pipe) }
         requires bag { HasBag core.old app self.old }
-        ensures does { Acts core.old core.new app (Receive pipe) (got result) }
+        ensures does { Acts core.old core.new app (Receive pipe) (received result) }
+        ensures shown { IfOk result
+            (λ it. Some it.len ≡
+            option_map (λ bytes. length bytes) (last_message core.new app pipe)) }
         ensures loans { KeepsLoans core.old core.new pipe }
         ensures bag { HasBag core.new app self.new }
         ensures other_bags { KeepsOtherBags core.old core.new app }
         ensures buffers { self.new ≡ record self.old { views = self.new.views } }
     {
-        core.receive_lending(app, pipe, &mut self.held, steps)
+        let number = core.receive_lending(app, pipe, &mut self.held, steps)?;
+        let view = surely_some(self.held.view_of(pipe));
+        Ok(ReceivedMessage::of(number, view.bytes()))
     }
 
     /// [`PlainBus::pend`].

@@ -11,8 +11,8 @@
 //!     let pipe = bus.create_pipe(1, 4, b"TLM").ok()?.ok()?;   // 1: pipes are numbered from 1
 //!     bus.subscribe::<Brand>(1, 0x0801, pipe, 4, 1, Blank::new(1)).ok()?.ok()?;
 //!     bus.transmit::<Brand>(1, packet, true, Blank::new(1)).ok()?.ok()?;
-//!     bus.receive::<Brand>(1, pipe, Blank::new(1)).ok()?.ok()?; // 1: the message's number
-//!     Some(bus.message(1, pipe)?.len())
+//!     let message = bus.receive::<Brand>(1, pipe, Blank::new(1)).ok()?.ok()?; // its number is 1
+//!     Some(message.len)
 //! }
 //! ```
 //!
@@ -24,8 +24,9 @@
 //!   changed (`nothing`).
 //! - Each application has its bag after every call (`recall_bags`). So no call has a condition on
 //!   the bus: only `blank`, for the count of steps, has one.
-//! - `message` shows the message that the application received last on the pipe (`last_message`).
-//!   A receive on a pipe, or its deletion, leaves the loans of all other pipes' messages (`loans`).
+//! - `message` shows the message that the application received last on the pipe (`last_message`);
+//!   a receive answers how long it is (`shown`). A receive on a pipe, or its deletion, leaves the
+//!   loans of all other pipes' messages (`loans`).
 #![tactic(auto)]
 
 mod asking;
@@ -39,11 +40,13 @@ mod lent_buffer;
 mod messages;
 mod pipes;
 mod pools;
+mod received_message;
 mod refusal;
 mod subscribing;
 mod waits;
 
 pub use boxed::SbBox;
 pub use lent_buffer::LentBuffer;
+pub use received_message::ReceivedMessage;
 pub use refusal::Refusal;
 pub use waits::LookAnswer;

@@ -1,20 +1,21 @@
 //! The calls of messages.
-ghost use Rattle.std.specs.Prelude.{◌≡◌, ◌<◌, false, true, None, Some, Err, IfOk, OnErr, IsTrue, IsSome};
+ghost use Rattle.std.specs.Prelude.{◌≡◌, ◌<◌, false, true, length, None, Some, Err, IfOk, OnErr, IsTrue};
 ghost use Rattle.std.specs.Option.{option_map};
 ghost use Rattle.std.specs.Result.{result_err};
 ghost use Rattle.bus_words.specs.declared.history.Call.TheVariants.{Transmit, Receive};
 ghost use Rattle.sb_plain.specs.Core.{Acts, with_tick, has_send_number};
-ghost use Rattle.sb_plain.specs.Answers.{sent, got};
+ghost use Rattle.sb_plain.specs.Answers.{sent};
 ghost use Rattle.sb_plain.specs.Bags.{KeepsLoans};
+ghost use Rattle.sb_box.specs.Answers.{received};
 ghost use Rattle.sb_box.specs.Asked.{is_application, unasked};
 ghost use Rattle.sb_box.specs.Box.{KeepsOtherBags, KeepsOwnBuffers, last_message};
 
 use crate::boxed::SbBox;
+use crate::received_message::ReceivedMessage;
 use crate::refusal::Refusal;
 use bus_words::BusCall;
 use fsw_base::SbStatus;
 use housekeeping::CounterName;
-use ruled_out::surely_some;
 use sb_plain::Sent;
 use step_count::{Blank, Ledger, Steps};
 
@@ -50,7 +51,8 @@ impl<'r> SbBox<'r> {
         Ok(self.core.transmit(caller, bytes, inc, &mut steps))
     }
 
-    /// Receives a message, as [`PlainBus::receive`]; [`SbBox::message`] shows it.
+    /// Receives a message, as [`PlainBus::receive`], and answers where its bytes lie. They stay
+    /// there until the application receives on the pipe again, deletes it, or ends.
     ///
     /// # Errors
     /// Those of [`PlainBus::receive`]; a [`Refusal`] where the bus wasn't asked.
@@ -59,37 +61,27 @@ impl<'r> SbBox<'r> {
         app: u32,
         pipe: u32,
         blank: Blank,
-    ) -> Result<Result<u64, SbStatus>, Refusal>
+    ) -> Result<Result<ReceivedMessage, SbStatus>, Refusal>
         requires name { blank.name ≡ L.name }
         requires parts { blank.parts ≡ L.parts }
         requires some_part { 0 < blank.parts }
         ensures unasked { result_err result ≡ unasked self.old.core app (Receive pipe) }
         ensures nothing { OnErr result (self.new ≡ self.old) }
         ensures does { IfOk result
-            (λ answer. Acts self.old.core self.new.core app (Receive pipe) (got answer)) }
+            (λ answer. Acts self.old.core self.new.core app (Receive pipe) (received answer)) }
         ensures others { IfOk result (λ answer. KeepsOtherBags self.old self.new app) }
         ensures buffers { IfOk result (λ answer. KeepsOwnBuffers self.old self.new app) }
         ensures loans { IfOk result (λ answer. KeepsLoans self.old.core self.new.core pipe) }
         ensures application { IfOk result (λ answer. is_application self.new.core app ≡ true) }
-        ensures there { IfOk result
-            (λ answer. IfOk answer (λ number. IsSome (last_message self.new.core app pipe))) }
+        ensures shown { IfOk result
+            (λ answer. IfOk answer
+            (λ it. Some it.len ≡
+            option_map (λ bytes. length bytes) (last_message self.new.core app pipe))) }
     {
         let caller = self.caller_for(app, &BusCall::Receive { pipe })?;
         let mut steps = Steps::<L>::new(blank);
         let bag = &mut self.bags[(caller.get() - 1) as usize];
         Ok(bag.receive(&mut self.core, caller, pipe, &mut steps))
-    }
-
-    /// The message that [`SbBox::receive`] gave the application last on this pipe. As
-    /// [`SbBox::message`], without its tests.
-    #[inline(always)]
-    pub fn received_message(&self, app: u32, pipe: u32) -> &[u8]
-        requires application { is_application self.now.core app ≡ true }
-        requires there { IsSome (last_message self.now.core app pipe) }
-        ensures { Some result.now ≡ last_message self.now.core app pipe }
-    {
-        let bag = &self.bags[(app - 1) as usize];
-        surely_some(bag.view_of(pipe)).bytes()
     }
 
     /// The message that the application received last on a pipe of its own. Its bytes stay where

@@ -1,5 +1,5 @@
 //! The calls of memory pools.
-ghost use Rattle.std.specs.Prelude.{◌≡◌, ◌<◌, ◌≤◌, ◌+◌, ℕ, false, slice_index, Err, Some, None, IfOk, OnErr, IsTrue, if◌then◌else◌};
+ghost use Rattle.std.specs.Prelude.{◌≡◌, ◌<◌, ◌≤◌, ◌+◌, ◌%◌, ℕ, false, slice_index, Err, Some, None, IfOk, OnErr, IsTrue, if◌then◌else◌};
 ghost use Rattle.std.specs.Result.{result_err};
 ghost use Rattle.bus_words.specs.declared.history.Call.TheVariants.{PoolCreate, PoolGet, PoolPut, PoolFigures};
 ghost use Rattle.es_pool.specs.Account.{IsAccountOf};
@@ -113,6 +113,7 @@ impl<'r> SbBox<'r> {
             result_err (answer_in self.now.core.whole.bus.pools pool
             (put_answer (pool_in self.now.core.whole.bus.pools pool) grant)) }
         ensures behind { IfOk result (λ block. overhead ≤ block.offset) }
+        ensures aligned { IfOk result (λ block. block.offset % 8 ≡ 0) }
         ensures within { IfOk result (λ block. block.offset + block.size ≤
             (pool_in self.now.core.whole.bus.pools pool).bytes) }
         ensures size { IfOk result (λ block. block.size ≡

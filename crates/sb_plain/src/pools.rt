@@ -1,6 +1,6 @@
 //! The calls of memory pools, which any application may create and use (cFE Executive Services,
 //! memory pools). They lend no bytes: what a pool hands out are numbered grants of its blocks.
-ghost use Rattle.std.specs.Prelude.{◌≡◌, ℕ, ◌+◌, ◌≤◌, false, length, slice_index, Err, IfOk, IsTrue};
+ghost use Rattle.std.specs.Prelude.{◌≡◌, ℕ, ◌+◌, ◌%◌, ◌≤◌, false, length, slice_index, Err, IfOk, IsTrue};
 ghost use Rattle.std.specs.Result.{result_err};
 ghost use Rattle.fsw_base.specs.PoolAccounts.{overhead};
 ghost use Rattle.es_pool.specs.Account.{IsAccountOf};
@@ -102,6 +102,7 @@ impl<'r> PlainBus<'r> {
             result_err (answer_in self.now.whole.bus.pools pool
             (put_answer (pool_in self.now.whole.bus.pools pool) grant)) }
         ensures behind { IfOk result (λ block. overhead ≤ block.offset) }
+        ensures aligned { IfOk result (λ block. block.offset % 8 ≡ 0) }
         ensures within { IfOk result (λ block. block.offset + block.size ≤
             (pool_in self.now.whole.bus.pools pool).bytes) }
         ensures size { IfOk result (λ block. block.size ≡

@@ -1,5 +1,5 @@
 -- Where the block of a grant lies.
-use Rattle.std.proofs.Common.{◌≢◌, ◌+◌, ◌≤◌, ℕ, All, Option, Result, get_or, refl, sym, ap, subst, ◌∙◌, vec_capacity, arith}
+use Rattle.std.proofs.Common.{◌≢◌, ◌+◌, ◌%◌, ◌≤◌, ℕ, All, Option, Result, get_or, refl, sym, ap, subst, ◌∙◌, vec_capacity, arith}
 use Rattle.std.specs.Result.{result_err}
 use Rattle.std.proofs.lemmas.List.{get_or_read}
 use Rattle.fsw_base.specs.declared.statuses.EsStatus.{EsStatus}
@@ -53,6 +53,11 @@ returns-in-Some-clause-refused c =
     let here = subst (λ l. HasNumber l c.args.grant c.in-Some.place) c.deref.ensures.value c.in-Some.ensures.some in
     sym (ap refusal_of (removed_answer s.pool (given_back s.pool (get_or s.lent.items c.in-Some.place row).block) s.given (vec_capacity s.lent) s.lent.items c.self.invariant c.args.grant c.in-Some.place here row refl))
     ∙ ap (λ (p : PoolGrants). refusal_of (put_answer p c.args.grant)) c.self.view_is
+
+pub returns-in-Some-clause-aligned : goal.returns-in-Some-clause-aligned
+returns-in-Some-clause-aligned c =
+    ap (λ (n : ℕ). n % 8) c.offset_of.ensures.offset
+    ∙ c.blocks_lie_apart.ensures.aligned c.self.inside.pool c.index.result.now.block c.recall_whole.ensures
 
 pub returns-in-Some-clause-within : goal.returns-in-Some-clause-within
 returns-in-Some-clause-within c =

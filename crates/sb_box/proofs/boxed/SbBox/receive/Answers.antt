@@ -1,12 +1,13 @@
-use Rattle.std.proofs.Common.{◌≡◌, ℕ, IsSome, IfOk, subst, arith}
+use Rattle.std.proofs.Common.{◌≡◌, ℕ, List, length, Some, IfOk, subst, arith}
+use Rattle.std.specs.Option.{option_map}
 use Rattle.std.proofs.lemmas.Result.{err_from_is_err_and}
 use Rattle.lend_block.specs.Loan.{LentBytes}
 use Rattle.buf_desc.specs.Held.{Holding}
 use Rattle.sb_box.proofs.Apps.{apps-acts}
 use Rattle.sb_plain.specs.Core.{apps_in}
+use Rattle.sb_box.specs.declared.received_message.ReceivedMessage.{ReceivedMessage}
 use Rattle.sb_box.specs.Box.{last_message}
 use Rattle.sb_box.proofs.Reasons.{handed_on, none_handed, is_app}
-use Rattle.sb_box.proofs.Receipts.{last_there}
 use Rattle.sb_box.proofs.Kept.{placed, own-bag, kept-own, others-stay, own-stays}
 use Rattle.sb_box.proofs.boxed.SbBox.receive.Goals as goal
 
@@ -44,7 +45,7 @@ returns-clause-application g c =
     let here = placed c.self.inside.core c.self.inside.bags.items c.args.self.now c.args.app c.in_ok-caller.caller c.get.result c.self.invariant c.self.view_is c.get.ensures.value c.get.ensures.first c.in_ok-caller.ensures.value c.in_ok-caller.ensures.may.known in
     is_app c.args.app (apps_in c.receive.new.core) (omega (arith, c.in_ok-caller.ensures.first, c.in_ok-caller.ensures.value)) (omega (arith, here.known, c.in_ok-caller.ensures.value, goes.apps))
 
-pub returns-clause-there : goal.returns-clause-there
-returns-clause-there g c =
-    subst (λ (who : ℕ). IfOk c.receive.result (λ number. IsSome (last_message c.receive.new.core who c.args.pipe))) c.in_ok-caller.ensures.value
-    (last_there c.self.inside.core c.receive.new.core c.in_ok-caller.caller c.args.pipe c.receive.result c.receive.ensures.does)
+pub returns-clause-shown : goal.returns-clause-shown
+returns-clause-shown g c =
+    subst (λ (who : ℕ). IfOk c.receive.result (λ (it : ReceivedMessage). Some it.len ≡ option_map (λ (bytes : List ℕ). length bytes) (last_message c.receive.new.core who c.args.pipe)))
+    c.in_ok-caller.ensures.value c.receive.ensures.shown
