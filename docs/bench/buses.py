@@ -4,7 +4,7 @@
     python3 docs/bench/buses.py [bus|ports|full] ..
 
 It prints the rows of the tables of docs/PERFORMANCE.md: of the core's words (bus), of a port's by one
-application and by each of two (ports), and what a send takes that is queued, and one that meets a full
+application and by each of two and of four (ports), and what a send takes that is queued, and one that meets a full
 pipe (full); all of them where no word is given. The counts are callgrind's, those of a longer run less
 those of a shorter one, divided by the rounds between. The programs are the built ones, and BUS_COST's
 and PORT_COST's where these are given; plain_bus is compiled here.
@@ -55,8 +55,9 @@ def tell_bus(plain_bus):
 def tell_ports(plain_bus):
     for word, rounds in PORT_WORDS.items():
         tell(f"`{word}`, one application", of_a_round(plain_bus, word, rounds), of_a_round(PORT_COST, word, rounds))
-        by_two = [of_a_round(program, word, rounds, "2") / 2 for program in (plain_bus, PORT_COST)]
-        tell(f"`{word}`, each of two, on threads", *by_two)
+        for apps, name in ((2, "two"), (4, "four")):
+            by_each = [of_a_round(program, word, rounds, str(apps)) / apps for program in (plain_bus, PORT_COST)]
+            tell(f"`{word}`, each of {name}, on threads", *by_each)
 
 
 def tell_full():

@@ -10,7 +10,7 @@
  * big, fanbig     the same with 32768 bytes
  * zc              a buffer of 64 bytes is asked for, written, sent as it lies, and received on 1 pipe
  * table           16384 bytes are loaded into a table, its address is taken, a byte is read, and the address goes back
- * port1, port16   as send1 and fan16, by 1 or 2 applications, each of two on a thread of its own and with ids of its own
+ * port1, port16   as send1 and fan16, by 1, 2 or 4 applications, each of several on a thread of its own and with ids of its own
  */
 #include <pthread.h>
 #include <stdbool.h>
@@ -491,22 +491,26 @@ static unsigned long carry_alone(struct share share)
     return carry_messages(share);
 }
 
-/* The rounds of so many applications, each of two on a thread of its own. */
+/* The rounds of so many applications, at most IDS, each of several on a thread of its own. */
 static unsigned long carry_by(uint32_t apps, struct share share)
 {
-    struct share other = share;
-    pthread_t thread;
-    other.number = 1;
-    share.ids = other.ids = IDS / apps;
-    open_pipes(share);
-    if (apps == 2) {
-        open_pipes(other);
-        pthread_create(&thread, NULL, carry, &other);
+    struct share shares[IDS];
+    pthread_t threads[IDS];
+    unsigned long received = 0;
+    for (uint32_t number = 0; number < apps; number++) {
+        shares[number] = share;
+        shares[number].number = number;
+        shares[number].ids = IDS / apps;
+        open_pipes(shares[number]);
     }
-    carry(&share);
-    if (apps == 2)
-        pthread_join(thread, NULL);
-    return share.received + other.received;
+    for (uint32_t number = 1; number < apps; number++)
+        pthread_create(&threads[number], NULL, carry, &shares[number]);
+    carry(&shares[0]);
+    for (uint32_t number = 1; number < apps; number++)
+        pthread_join(threads[number], NULL);
+    for (uint32_t number = 0; number < apps; number++)
+        received += shares[number].received;
+    return received;
 }
 
 static void open_bus(void)
@@ -527,7 +531,7 @@ int main(int argc, char **argv)
                  {"fanbig", 32768, 16}, {"port1", 64, 1},  {"port16", 64, 16}};
     const char *word = argc > 1 ? argv[1] : "";
     unsigned long rounds = argc > 2 ? strtoul(argv[2], NULL, 10) : 0;
-    uint32_t apps = argc > 3 && strcmp(argv[3], "2") == 0 ? 2 : 1;
+    uint32_t apps = argc <= 3 ? 1 : strcmp(argv[3], "4") == 0 ? 4 : strcmp(argv[3], "2") == 0 ? 2 : 1;
     struct share share = {.rounds = rounds};
     unsigned long received = 0;
 

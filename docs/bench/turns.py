@@ -1,11 +1,12 @@
 #!/usr/bin/env python3
-"""Times rounds by ports: of one application alone, and of two at once, each on a thread of its own.
+"""Times rounds by ports: of one application alone, and of two and of four at once, each on a thread of its own.
 
     python3 docs/bench/turns.py [--times N] [NAME=PROGRAM ..]
 
-It prints microseconds a round, by the clock and of processors: of plain_bus, which is compiled here, of the built cost_port, and
-of further programs that take the same words, such as cost_port over another lock. They run in turn. Of N runs each (9, where it
-isn't given) the least counts, that of a longer run less that of a shorter one.
+It prints microseconds a round of each application, by the clock and of processors: of plain_bus, which is compiled here, of the
+built cost_port, and of further programs that take the same words, such as cost_port over another lock. They run in turn. Of N
+runs each (9, where it isn't given) the least counts, that of a longer run less that of a shorter one; by the clock the middle one
+too. A program that doesn't know so many applications has no figure there.
 """
 import argparse
 import os
@@ -14,13 +15,14 @@ import subprocess
 import tempfile
 import time
 from pathlib import Path
+from statistics import median
 
 HERE = Path(__file__).resolve().parent
 COST_PORT = HERE.parent.parent / "crates/cost_port/out/cost_port"
 
 # The pipes of each word, and the rounds of its shorter and of its longer run.
 WORDS = {"port1": (1, 10000, 210000), "port16": (16, 1000, 21000)}
-APPS = (1, 2)
+APPS = (1, 2, 4)
 
 
 def taken(program, word, rounds, apps):
@@ -37,11 +39,12 @@ def taken(program, word, rounds, apps):
 
 
 def figure(runs, rounds):
-    """Microseconds a round, by the clock and of processors, of what shorter and longer runs took."""
+    """Microseconds a round, of what shorter and longer runs took: by the clock, the least and the middle, and of processors."""
     if None in runs["shorter"] + runs["longer"]:
         return "-"
-    clock, busy = ((min(longer) - min(shorter)) / rounds * 1e6 for shorter, longer in zip(zip(*runs["shorter"]), zip(*runs["longer"])))
-    return f"{clock:.2f}, {busy:.2f}"
+    (clock, busy), (long_clock, long_busy) = zip(*runs["shorter"]), zip(*runs["longer"])
+    taken_by = (min(long_clock) - min(clock), median(long_clock) - median(clock), min(long_busy) - min(busy))
+    return "{:.2f} ({:.2f}), {:.2f}".format(*(it / rounds * 1e6 for it in taken_by))
 
 
 def main():
@@ -53,7 +56,7 @@ def main():
         plain_bus = Path(room, "plain_bus")
         subprocess.run(["cc", "-O2", "-pthread", "-o", plain_bus, HERE / "plain_bus.c"], check=True)
         programs = {"plain_bus": plain_bus, "cost_port": COST_PORT, **dict(it.split("=", 1) for it in given.program)}
-        print("| Microseconds a round: by the clock, of processors |", " | ".join(programs), "|")
+        print("| Microseconds a round: by the clock, least (middle); of processors |", " | ".join(programs), "|")
         for word, (_, short, long) in WORDS.items():
             for apps in APPS:
                 runs = {name: {"shorter": [], "longer": []} for name in programs}

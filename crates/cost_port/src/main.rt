@@ -1,20 +1,20 @@
 //! Has applications send messages to themselves by ports of the software bus, so that what a call
 //! through a port costs can be measured from outside. The first argument says to how many pipes a
 //! message goes, and the second is the number of rounds of each application, at most 1,000,000.
-//! Where the third is 2 there are two applications, each on a thread of its own, and else one.
+//! The third is the number of applications, 1, 2 or 4; several are each on a thread of its own.
 //!
 //! ```text
 //! port1, port16   a message of 64 bytes is sent to 1 or 16 pipes, and received on each
 //! ```
 //!
-//! There are four message ids, each with pipes of its own; two applications have two of the ids
-//! each. The journal is on. What is printed depends on no time.
+//! There are four message ids, each with pipes of its own, which the applications share equally.
+//! The journal is on. What is printed depends on no time.
 #![tactic(auto)]
 
 mod ports;
 mod shares;
 
-use shares::dests_of;
+use shares::{Share, dests_of};
 use std::{env, io};
 
 // The most rounds of an application.
@@ -26,11 +26,11 @@ fn main(rt: HostRuntime) -> io::Result<()> {
         return println!(rt; "a word and a number of rounds are wanted");
     };
     let rounds = number_in(words.next()).min(MOST_ROUNDS);
-    let both = number_in(words.next()) == 2;
+    let apps = number_in(words.next());
     let Some(dests) = dests_of(&word) else {
         return println!(rt; "{word} is none of the words");
     };
-    let received = ports::run(&rt, rt.alloc(), rounds, dests, both)?;
+    let received = ports::run(&rt, rt.alloc(), apps, Share::of_all(rounds, dests))?;
     println!(rt; "{word} rounds={rounds} received={received}")
 }
 

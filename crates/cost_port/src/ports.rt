@@ -1,12 +1,11 @@
 //! Rounds by ports.
-ghost use Rattle.std.specs.Prelude.{◌≡◌, ◌≤◌, length};
-ghost use Rattle.journal_store.specs.Budgets.{AreBudgets};
+ghost use Rattle.std.specs.Prelude.{◌≡◌, ◌+◌, ◌<◌, ◌≤◌, [], length, All, IfOk};
 
 use crate::shares::{DEPTH, Ids, SIZE, Share, budget_for};
-use bus_service::{Bus, BusPort};
+use bus_service::{Bus, BusMain, BusPort};
 use bus_words::BusCall;
 use ccsds_msg::write_header;
-use fsw_base::{AppNo, Budget, Config, Scope};
+use fsw_base::{AppNo, Config, Scope};
 use std::alloc::{AllocError, Global};
 use std::sync::Wait;
 use std::thread::{Threads, join};
@@ -23,76 +22,128 @@ struct Job<'e, 'r> {
     share: Share,
 }
 
-// The job of this port.
-fn job_for<'e, 'r>(bus: &'e Bus<'r>, port: BusPort<'r>, share: Share) -> Job<'e, 'r>
-    ensures bus { result.bus.now ≡ bus.now }
-    ensures port { result.port ≡ port.entry }
-{
-    Job { bus, port, share }
+// Two jobs at one bus. They are one value, so that a closure takes both at one lifetime.
+#[derive(Drop)]
+struct Jobs<'e, 'r> {
+    // The one.
+    one: Job<'e, 'r>,
+    // The other.
+    other: Job<'e, 'r>,
 }
 
-/// Opens a bus with ports for two applications, and has the first run its rounds, or both, each on
-/// a thread of its own. Answers how many messages were received.
+/// Opens a bus with ports for so many applications, 1, 2 or 4, and has each run its rounds, each of
+/// several on a thread of its own. Answers how many messages were received.
 ///
 /// # Errors
 /// Where memory runs out.
 pub fn run<R: Threads + Wait + Sync>(
     rt: &R,
     alloc: Global,
-    rounds: u32,
-    dests: u8,
-    both: bool,
+    apps: u32,
+    share: Share,
 ) -> Result<u32, AllocError>
-    requires { rounds ≤ 1000000 }
+    requires { share.rounds ≤ 1000000 }
 {
     let cfg = Config::usual();
-    let budget = budget_for(rounds, dests);
-    let budgets = [budget, budget];
+    let budget = budget_for(share.rounds, share.dests);
+    let budgets = [budget, budget, budget, budget];
     let mut region = vec![in alloc; 0; cfg.pool as usize]?;
-    let ids = if both { Ids::First } else { Ids::All };
-    let share = Share { ids, dests, rounds };
-    open_and_run(rt, alloc, &cfg, &budgets, &mut region, share)
+    let (bus, main) = Bus::new(alloc, &cfg, &budgets, &mut region)?;
+    run_on(rt, alloc, &bus, main, apps, share)
 }
 
-// Opens the bus over the region, makes both ports, and runs the rounds: where the share has all
-// ids, of the first application alone.
-fn open_and_run<R: Threads + Wait + Sync>(
+// Makes the ports of so many applications, and has each run its rounds.
+fn run_on<'e, 'r, R: Threads + Wait + Sync>(
     rt: &R,
     alloc: Global,
-    cfg: &Config,
-    budgets: &[Budget],
-    region: &mut [u8],
+    bus: &'e Bus<'r>,
+    mut main: BusMain,
+    apps: u32,
     share: Share,
 ) -> Result<u32, AllocError>
-    requires budgets { AreBudgets budgets.now }
-    requires two { length budgets.now ≡ 2 }
-    requires region { cfg.now.pool ≤ length region.old }
+    requires main { main.lock ≡ bus.now }
+    requires four { length main.seen.log.budgets ≡ 4 }
+    requires new { main.apps ≡ [] }
 {
-    let (bus, mut main) = Bus::new(alloc, cfg, budgets, region)?;
-    let one = bus.port(alloc, &mut main, AppNo::try_new(1).unwrap())?;
-    let other = bus.port(alloc, &mut main, AppNo::try_new(2).unwrap())?;
-    Ok(run_ports(rt, &bus, one, other, share))
+    match apps {
+        4 => {
+            let one = open_job(rt, alloc, bus, &mut main, 1, share.with(Ids::One(0)))?;
+            let two = open_job(rt, alloc, bus, &mut main, 2, share.with(Ids::One(1)))?;
+            let three = open_job(rt, alloc, bus, &mut main, 3, share.with(Ids::One(2)))?;
+            let four = open_job(rt, alloc, bus, &mut main, 4, share.with(Ids::One(3)))?;
+            Ok(run_four(
+                rt,
+                Jobs { one, other: two },
+                Jobs {
+                    one: three,
+                    other: four,
+                },
+            ))
+        }
+        2 => {
+            let one = open_job(rt, alloc, bus, &mut main, 1, share.with(Ids::First))?;
+            let two = open_job(rt, alloc, bus, &mut main, 2, share.with(Ids::Last))?;
+            Ok(run_both(rt, one, two))
+        }
+        _ => {
+            let one = open_job(rt, alloc, bus, &mut main, 1, share)?;
+            Ok(run_job(rt, one))
+        }
+    }
 }
 
-// Makes the pipes of the ports, and runs their rounds: where the share has all ids, those of the
-// first alone.
-fn run_ports<'r, R: Threads + Wait + Sync>(
+// The job of an application whose number is above those of all that have a port, with its pipes
+// made.
+fn open_job<'e, 'r, R: Wait>(
     rt: &R,
-    bus: &Bus<'r>,
-    mut one: BusPort<'r>,
-    mut other: BusPort<'r>,
+    alloc: Global,
+    bus: &'e Bus<'r>,
+    main: &mut BusMain,
+    app: u32,
     share: Share,
-) -> u32
-    requires one { one.lock ≡ bus.now }
-    requires other { other.lock ≡ bus.now }
+) -> Result<Job<'e, 'r>, AllocError>
+    requires main { main.old.lock ≡ bus.now }
+    requires some { 1 ≤ app }
+    requires few { app ≤ 4 }
+    requires four { length main.old.seen.log.budgets ≡ 4 }
+    requires below { All (λ made. made < app) main.old.apps }
+    ensures bus { IfOk result (λ job. job.port.lock ≡ job.bus.now) }
+    ensures main { IfOk result (λ _. main.new ≡ record main.old { apps = main.new.apps }) }
+    ensures below { IfOk result (λ _. All (λ made. made < app + 1) main.new.apps) }
 {
-    open_pipes(rt, bus, &mut one, share);
-    if matches!(share.ids, Ids::All) {
-        return run_rounds(rt, bus, &mut one, share);
-    }
-    let last = share.with_last();
-    open_pipes(rt, bus, &mut other, last);
-    run_both(rt, job_for(bus, one, share), job_for(bus, other, last))
+    let mut port = bus.port(alloc, main, AppNo::try_new(app).unwrap())?;
+    open_pipes(rt, bus, &mut port, share);
+    Ok(Job { bus, port, share })
+}
+
+// Runs the rounds of four at once, each on a thread of its own.
+fn run_four<R: Threads + Wait + Sync>(rt: &R, first: Jobs<'_, '_>, last: Jobs<'_, '_>) -> u32
+    requires one { first.one.port.lock ≡ first.one.bus.now }
+    requires two { first.other.port.lock ≡ first.other.bus.now }
+    requires three { last.one.port.lock ≡ last.one.bus.now }
+    requires four { last.other.port.lock ≡ last.other.bus.now }
+{
+    let (first, last) = join(
+        rt,
+        move || -> u32
+            requires { (first.one.port.lock ≡ first.one.bus.now)
+                × (first.other.port.lock ≡ first.other.bus.now) }
+        { run_jobs(rt, first) },
+        move || -> u32
+            requires { (last.one.port.lock ≡ last.one.bus.now)
+                × (last.other.port.lock ≡ last.other.bus.now) }
+        { run_jobs(rt, last) },
+    );
+    first.saturating_add(last)
+}
+
+// Runs the rounds of both jobs at once, each on a thread of its own.
+fn run_jobs<R: Threads + Wait + Sync>(rt: &R, jobs: Jobs<'_, '_>) -> u32
+    requires one { jobs.one.port.lock ≡ jobs.one.bus.now }
+    requires other { jobs.other.port.lock ≡ jobs.other.bus.now }
+{
+    let Jobs { one, other } = jobs;
+    run_both(rt, one, other)
 }
 
 // Runs the rounds of both at once, each on a thread of its own.

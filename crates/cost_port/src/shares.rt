@@ -1,5 +1,5 @@
 //! What each application does.
-ghost use Rattle.std.specs.Prelude.{◌≤◌, ◌∷◌, []};
+ghost use Rattle.std.specs.Prelude.{◌≡◌, ◌≤◌, ◌∷◌, []};
 ghost use Rattle.journal_store.specs.Budgets.{AreBudgets};
 
 use fsw_base::Budget;
@@ -19,6 +19,8 @@ pub enum Ids {
     First,
     /// The last two.
     Last,
+    /// The one at this place, from 0.
+    One(u8),
 }
 
 /// What an application does: so many rounds, in each a message to the next of its ids, which it
@@ -34,10 +36,21 @@ pub struct Share {
 }
 
 impl Share {
-    /// As much with the last two ids.
-    pub fn with_last(self) -> Share {
+    /// What an application does that has all ids.
+    pub fn of_all(rounds: u32, dests: u8) -> Share
+        ensures { result.rounds ≡ rounds }
+    {
         Share {
-            ids: Ids::Last,
+            ids: Ids::All,
+            dests,
+            rounds,
+        }
+    }
+
+    /// As much with these ids.
+    pub fn with(self, ids: Ids) -> Share {
+        Share {
+            ids,
             dests: self.dests,
             rounds: self.rounds,
         }
@@ -49,6 +62,7 @@ impl Share {
         match self.ids {
             Ids::All => 4 * dests,
             Ids::First | Ids::Last => 2 * dests,
+            Ids::One(_) => dests,
         }
     }
 
@@ -58,6 +72,7 @@ impl Share {
             Ids::All => 0x0801 + (round % 4) as u16,
             Ids::First => 0x0801 + (round % 2) as u16,
             Ids::Last => 0x0803 + (round % 2) as u16,
+            Ids::One(place) => 0x0801 + u16::from(place),
         }
     }
 
@@ -66,6 +81,7 @@ impl Share {
         let first = match self.ids {
             Ids::All | Ids::First => b'A',
             Ids::Last => b'B',
+            Ids::One(place) => b'A' + place % 4,
         };
         [
             first,
@@ -82,7 +98,21 @@ impl Share {
             Ids::All => 1 + round % 4 + 4 * dest,
             Ids::First => 1 + round % 2 + 2 * dest,
             Ids::Last => 1 + 2 * u32::from(self.dests) + round % 2 + 2 * dest,
+            Ids::One(place) => 1 + first_of(place, u32::from(self.dests)) + dest,
         }
+    }
+}
+
+// How many pipes have the ids before that of this place, with so many each.
+fn first_of(place: u8, dests: u32) -> u32
+    requires { dests ≤ 255 }
+    ensures { result ≤ 765 }
+{
+    match place {
+        0 => 0,
+        1 => dests,
+        2 => 2 * dests,
+        _ => 3 * dests,
     }
 }
 
@@ -100,7 +130,7 @@ pub fn dests_of(word: &str) -> Option<u8> {
 /// What an application needs for so many rounds, each with a receive on so many pipes.
 pub fn budget_for(rounds: u32, dests: u8) -> Budget
     requires { rounds ≤ 1000000 }
-    ensures { AreBudgets (result ∷ result ∷ []) }
+    ensures { AreBudgets (result ∷ result ∷ result ∷ result ∷ []) }
 {
     Budget {
         entries: entries_for(rounds, dests),

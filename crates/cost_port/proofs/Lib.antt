@@ -1,0 +1,2 @@
+mod JobsCross
+mod Rising
