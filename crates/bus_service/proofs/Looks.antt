@@ -1,6 +1,6 @@
 -- Looks by ports: one in vain leaves the core, one that found something is a call, and others'
 -- entries leave which pipe is waited on.
-use Rattle.std.proofs.Common.{◌≡◌, ℕ, ◌≤◌, true, false, true≢false, ap, sym, ◌∙◌, subst}
+use Rattle.std.proofs.Common.{◌≡◌, ℕ, ◌≤◌, true, false, true≢false, ap, subst}
 use Rattle.bus_words.specs.declared.history.Call.TheVariants.{Look}
 use Rattle.bus_words.specs.Bus.{Standing, standing_of, waited_on}
 use Rattle.sb_calls.specs.declared.results.Pended.{Pended}

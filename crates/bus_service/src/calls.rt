@@ -1,5 +1,4 @@
 //! What the calls of all ports have in common.
-ghost use Rattle.std.specs.Prelude.{◌≡◌};
 ghost use Rattle.lend_block.specs.Loan.{LentBytes};
 ghost use Rattle.buf_desc.specs.Held.{Holding};
 ghost use Rattle.bus_words.specs.declared.calls.BusAnswer.{BusAnswer};

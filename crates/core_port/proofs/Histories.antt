@@ -23,6 +23,11 @@ none_of_them N caller app (e ∷ es) none = by (eqb (caller e) app) refl none (n
     by true is none rest = absurd (cc (none))
     by false is none rest = All-cons (λ x. caller x ≢ app) e es (λ same. true≢false (sym (itself (caller e) app same) ∙ is)) (rest none)
 
+-- what stands behind all of one's entries has none of them
+pub nothing_more : {T : Type 0} (xs ys : List T) → xs ++ ys ≡ xs → ys ≡ []
+nothing_more xs [] is = refl
+nothing_more {T} xs (y ∷ ys) is = absurd (omega (arith, ap (λ (l : List T). length l) is, length-append xs (y ∷ ys)))
+
 -- Pairs. --
 
 module _ {E : Type 0} where
@@ -34,11 +39,6 @@ module _ {E : Type 0} where
   pairs-push app xs event =
       pairs-append app xs ((app, event) ∷ [])
       ∙ ap (λ l. entries_of app xs ++ l) (ap (λ b. cond {A = List (ℕ × E)} b ((app, event) ∷ []) []) (itself app app refl))
-
-  -- what stands behind all of one's entries has none of them
-  pub nothing_more : (xs ys : List (ℕ × E)) → xs ++ ys ≡ xs → ys ≡ []
-  nothing_more xs [] is = refl
-  nothing_more xs (y ∷ ys) is = absurd (omega (arith, ap (λ (l : List (ℕ × E)). length l) is, length-append xs (y ∷ ys)))
 
 module _ {S N C A L : Type 0} (w : Words S N C A L) (l : Laws w) where
   abbrev it : N → Note → ℕ × NotedCall C A

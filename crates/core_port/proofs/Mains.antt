@@ -14,7 +14,7 @@ use Rattle.core_port.specs.Inside.{AreCalled, IsPort, IsMainPart, seen_in, mine_
 use Rattle.core_port.specs.Ports.{PortView, MainView, Begins, KeepsLongerOf}
 use Rattle.core_port.specs.declared.history.NotedCall.{NotedCall}
 use Rattle.core_port.proofs.ApplicationCounts.{none_once, one_more, room_for}
-use Rattle.core_port.proofs.Histories.{own-entries_in, entries_in-append, notes_in-append, called_in, entries_again, notes_again, core_again}
+use Rattle.core_port.proofs.Histories.{own-entries_in, entries_in-append, notes_in-append, called_in, entries_again, core_again}
 use mathlib.Core.List.{IsPrefix}
 
 -- where nothing was entered there is no note

@@ -1,10 +1,10 @@
 -- What a port finds at its turn: others called meanwhile, and what its own entries tell is so at the core.
-use Rattle.std.proofs.Common.{◌≡◌, ℕ, ◌≤◌, List, [], ◌++◌, length, Some, refl, ap, ap₂, sym, ◌∙◌, subst}
+use Rattle.std.proofs.Common.{◌≡◌, ℕ, ◌≤◌, List, [], ◌++◌, length, Some, ap, ap₂, sym, ◌∙◌, subst}
 use Rattle.lend_block.specs.declared.note.Note.{Note}
 use Rattle.turn_lock.specs.Views.{entries_of}
 use Rattle.turn_lock.specs.Seats.{Known, SeatView, view_of}
 use Rattle.core_port.specs.Words.{Fixed, Words, Laws}
-use Rattle.core_port.specs.Histories.{the_fixed, history_of, entries_in, notes_in, core_with}
+use Rattle.core_port.specs.Histories.{the_fixed, entries_in, notes_in, core_with}
 use Rattle.core_port.specs.Inside.{IsPort, seen_in}
 use Rattle.core_port.specs.Turns.{Entered}
 use Rattle.core_port.specs.declared.history.NotedCall.{NotedCall}

@@ -1,5 +1,5 @@
 //! What the lock guards: the core in a box, so that a turn moves a pointer.
-ghost use Rattle.std.specs.Prelude.{◌≡◌, ℕ, ◌<◌, ◌≤◌, ◌&&◌, true, false, length, IfOk};
+ghost use Rattle.std.specs.Prelude.{◌≡◌, ◌<◌, ◌≤◌, ◌&&◌, true, false, length, IfOk};
 ghost use Rattle.std.specs.Prelude.{if◌then◌else◌};
 
 use crate::history::{NotedCall, Opening};

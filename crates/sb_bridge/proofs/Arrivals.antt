@@ -9,6 +9,7 @@ use Rattle.bus_words.specs.Alone.{Received, receipts}
 use Rattle.bus_words.specs.Machine.{IsLegal, state_after}
 use Rattle.bus_words.specs.Runs.{callers, own_entries}
 use Rattle.bus_words.proofs.Steps.{AreNumbered-after}
+use Rattle.core_port.proofs.Histories.{none_of_them, nothing_more}
 use Rattle.bus_service.specs.Ports.{Answers, Begins, PortView}
 use Rattle.sb_calls.specs.Core.{Core, apps_of, state_of}
 use Rattle.script_runs.specs.Histories.{Histories}
@@ -21,7 +22,6 @@ use Rattle.bridge_runs.proofs.BridgeLaws.{bytes_beside, lines_beside}
 use Rattle.bridge_runs.proofs.LineSends.{waits_beside}
 use Rattle.sb_bridge.specs.Ports.{IsAt, IsOwn, given_in}
 use Rattle.sb_bridge.proofs.Asked.{given, own_still, same}
-use Rattle.sb_bridge.proofs.OthersEntries.{by_others, nothing_more}
 use Rattle.sb_bridge.proofs.OwnPipe.{IsOnly, given_others, only-owned, only_others}
 
 -- ---- the entries of the end
@@ -53,7 +53,7 @@ module _ (p : ℕ) (from last : PortView) (at : IsAt p from) (ends : Answers fro
 
   others : All (λ (e : Entry). e.app ≢ from.app) more
   others =
-      by_others from.app more
+      none_of_them Entry (λ e. e.app) from.app more
       (nothing_more (own_entries from.app last.seen.log.entries) (own_entries from.app more)
       (sym (filter-append (λ (e : Entry). e.app == from.app) last.seen.log.entries more)
       ∙ ap (own_entries from.app) all_is ∙ own ∙ sym recalled ∙ ap (λ n. own_entries n last.seen.log.entries) ends.app))

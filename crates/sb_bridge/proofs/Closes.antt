@@ -1,5 +1,5 @@
 -- A side whose ports were joined, the bridge's last, and whose services were closed behind them.
-use Rattle.std.proofs.Common.{◌≡◌, inl, inr, ap₂, ℕ, ◌+◌, All, Contains, List, [], ◌∷◌, ◌++◌, length, map, Some, ap, sym, ◌∙◌, subst, arith, length-append}
+use Rattle.std.proofs.Common.{◌≡◌, ap₂, ℕ, ◌+◌, All, Contains, List, [], ◌∷◌, ◌++◌, length, map, Some, ap, sym, ◌∙◌, subst, arith, length-append}
 use Rattle.std.specs.List.{range_with_len}
 use Rattle.std.proofs.lemmas.List.{length-replicate, map-append}
 use Rattle.std.proofs.lemmas.List.Elements.{All-pop, All-weaker, All-contains_itself, Contains-push, Contains-append_left}
@@ -7,7 +7,6 @@ use mathlib.Core.Logic.{dite}
 use native.Mathlib.Decide.{ℕ_discrete}
 use Rattle.atomic_table.specs.Seated.{TableId}
 use Rattle.fsw_base.specs.declared.config.Budget.{Budget}
-use Rattle.fsw_base.proofs.Prefix.{prefix_self, prefix_trans}
 use Rattle.bus_words.specs.declared.history.Entry.{Entry}
 use Rattle.bus_words.specs.Bus.{opening}
 use Rattle.bus_words.specs.Machine.{IsLegal}
@@ -31,7 +30,7 @@ use Rattle.thread_run.specs.declared.works.Done.{Done}
 use Rattle.thread_run.specs.Mains.{numbers, IsJoined, AreJoined}
 use Rattle.thread_run.specs.Whole.{app_beside, whole_of}
 use Rattle.thread_run.specs.Works.{IsDone, Numbered}
-use Rattle.thread_run.proofs.Joins.{begins-longer, begins-trans, each-at, named}
+use Rattle.thread_run.proofs.Joins.{begins-longer, begins-longer_at_tables, begins-trans, begins-trans_at_tables, each-at, named, same-longer, same-longer_at_tables}
 use Rattle.thread_run.proofs.Joins as joins
 use Rattle.thread_run.proofs.Numbers.{in-numbers}
 use Rattle.thread_run.proofs.Wholes.{app_at-whole}
@@ -39,24 +38,6 @@ use Rattle.bridge_plan.specs.Plan.{bridge_of}
 use Rattle.bridge_runs.specs.Sides.{AreLegal, MergesBeside}
 use Rattle.sb_bridge.specs.declared.ends.EndedPorts.{EndedPorts}
 use Rattle.sb_bridge.specs.Sides.{IsClosedSide}
-use Rattle.sb_bridge.proofs.FirstOfAll.{same-longer}
-
--- ---- what the main part of the tables has seen
-
-begins-trans_at_tables : (one two three : TableCore) → BeginsAtTables one two → BeginsAtTables two three → BeginsAtTables one three
-begins-trans_at_tables one two three first then = record {
-  entries = prefix_trans one.log.entries two.log.entries three.log.entries first.entries then.entries;
-  notes = prefix_trans one.notes two.notes three.notes first.notes then.notes;
-}
-
-begins-longer_at_tables : (one other kept : TableCore) → KeepsLongerAtTables one other kept → BeginsAtTables one kept
-begins-longer_at_tables one other kept (inl longer) = subst (BeginsAtTables one) (sym longer.1) (record { entries = longer.0.entries; notes = longer.0.notes })
-begins-longer_at_tables one other kept (inr longer) =
-    subst (BeginsAtTables one) (sym longer.1) (record { entries = prefix_self one.log.entries; notes = prefix_self one.notes })
-
-same-longer_at_tables : (one other kept : TableCore) → KeepsLongerAtTables one other kept → (kept.limits ≡ one.limits) × (kept.log.budgets ≡ one.log.budgets)
-same-longer_at_tables one other kept (inl longer) = (ap (λ (core : TableCore). core.limits) longer.1, ap (λ (core : TableCore). core.log.budgets) longer.1)
-same-longer_at_tables one other kept (inr longer) = (ap (λ (core : TableCore). core.limits) longer.1, ap (λ (core : TableCore). core.log.budgets) longer.1)
 
 -- ---- all were joined
 
@@ -156,7 +137,7 @@ module _ (script : ScriptText) (budget : Budget) (bus tables : TableId) (ds : Li
     extends-port = begins-trans seen now.seen core (begins-longer main.seen seen now.seen keeps).1 c_extends
 
     tables-extend : BeginsAtTables tables_main.seen table_core
-    tables-extend = begins-trans_at_tables tables_main.seen tables_now.seen table_core (begins-longer_at_tables tables_main.seen table_seen tables_now.seen table_keeps) t_extends
+    tables-extend = begins-trans_at_tables tables_main.seen tables_now.seen table_core (begins-longer_at_tables tables_main.seen table_seen tables_now.seen table_keeps).0 t_extends
 
     limits-are : core.limits ≡ script.limits
     limits-are = limits ∙ j.limits

@@ -10,12 +10,8 @@ use Rattle.bus_service.specs.Ports.{Begins, KeepsLongerOf, MainView, PortView}
 use Rattle.app_script.specs.Script.{ScriptText}
 use Rattle.thread_run.specs.declared.works.Done.{Done}
 use Rattle.thread_run.specs.Mains.{IsJoined, IsOpen, numbers}
+use Rattle.thread_run.proofs.Joins.{same-longer}
 use Rattle.thread_run.proofs.Numbers.{in-numbers}
-
--- the longer of two has the limits and the budgets of the first
-pub same-longer : (one other kept : Core) → KeepsLongerOf one other kept → (kept.limits ≡ one.limits) × (kept.log.budgets ≡ one.log.budgets)
-same-longer one other kept (inl longer) = (ap (λ (core : Core). core.limits) longer.1, ap (λ (core : Core). core.log.budgets) longer.1)
-same-longer one other kept (inr longer) = (ap (λ (core : Core). core.limits) longer.1, ap (λ (core : Core). core.log.budgets) longer.1)
 
 begins-none : {X : Type 0} (xs ys : List X) → IsPrefix xs ys → ys ≡ [] → xs ≡ []
 begins-none [] ys is none = refl

@@ -1,5 +1,4 @@
 pub mod OwnPipe
-pub mod OthersEntries
 pub mod OwnBudget
 pub mod Asked
 pub mod Waits

@@ -1,22 +1,13 @@
 -- What the bridge takes along may go to its thread.
 use denote.Ref.{NamedLft}
-use denote.Param.Send.{IsSend, IsSync, sendable}
+use denote.Param.Send.{IsSend, sendable}
 use denote.Param.SendFields.{declared_send}
-use Rattle.app_script.specs.contracts.script.Script as script
-use Rattle.app_script.proofs.script.Script.TheSendSync as lines
-use Rattle.bus_service.proofs.Threads.{bus_sync, port_send}
-use Rattle.tbl_service.proofs.Threads.{tables_sync}
+use Rattle.bus_service.proofs.Threads.{port_send}
 use Rattle.tbl_service.proofs.ports.TblPort.TheSendSync as tables_port
-use Rattle.thread_run.specs.contracts.works.RunParts as parts
+use Rattle.thread_run.proofs.Threads.{parts_send}
 use Rattle.sb_bridge.specs.contracts.bridge.BridgeJob as job
 use Rattle.sb_bridge.specs.contracts.bridge.BridgePorts as ports
 use Rattle.sb_bridge.specs.contracts.bridge.Crossing as crossing
-
-script_sync : IsSync script.the_row
-script_sync = lines.the_sync
-
-parts_send : (e r : NamedLft) → IsSend (parts.the_row e r)
-parts_send e r = let s = script_sync in let b = bus_sync r in let t = tables_sync r in search sendable depth 20
 
 ports_send : (r : NamedLft) → IsSend (ports.the_row r)
 ports_send r = let p = port_send r in let t = tables_port.the_send r in search sendable depth 20

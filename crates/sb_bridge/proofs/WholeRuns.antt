@@ -59,7 +59,7 @@ ends_alone shared ports ended may ends script history own =
 -- ---- the run
 
 module _ (plan : PlanText) (crossing : Crossing) (done : BridgeDone) (through : IsThrough crossing done) (met : MainView) (port : PortView) (first : IsFirst plan crossing.pipe met.seen.log.entries port)
-    (W1 W2 : ScriptText) (main_two : MainView) (one two : Finished) (side_one : IsClosedSide plan.one W1 met done.from one) (side_two : IsClosedSide plan.two W2 main_two done.to two)
+    (with_bridge_one with_bridge_two : ScriptText) (main_two : MainView) (one two : Finished) (side_one : IsClosedSide plan.one with_bridge_one met done.from one) (side_two : IsClosedSide plan.two with_bridge_two main_two done.to two)
     (script_one : crossing.one.script.now ≡ plan.one) (script_two : crossing.two.script.now ≡ plan.two) (most : crossing.most ≡ budget_on_two_of plan)
     (firsts : crossing.firsts ≡ length plan.routes + 1) (apps : apps_of through.from.port.seen ≡ side_apps plan.one) where
   abbrev p : ℕ

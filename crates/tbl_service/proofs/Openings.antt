@@ -1,12 +1,12 @@
 -- What a port that has made no call may still add, and whether it may make its last call.
-use Rattle.std.proofs.Common.{◌≡◌, ℕ, ◌-◌, ◌≤◌, not, leb, List, [], length, All, IsTrue, refl, ap, sym, ◌∙◌, subst, arith}
+use Rattle.std.proofs.Common.{◌≡◌, ℕ, ◌-◌, ◌≤◌, not, leb, List, [], length, All, refl, ap, sym, ◌∙◌, subst, arith}
 use Rattle.std.proofs.lemmas.List.{get_or-map}
 use Rattle.fsw_base.specs.declared.config.Budget.{Budget}
 use Rattle.journal_store.specs.declared.allowance.Allowance.{Allowance}
 use Rattle.journal_store.specs.Budgets.{allowance_of, allowances}
 use Rattle.tbl_words.specs.declared.history.Entry.{Entry}
 use Rattle.tbl_words.specs.Log.{left_of}
-use Rattle.tbl_load.specs.Core.{Core, MayCall}
+use Rattle.tbl_load.specs.Core.{Core}
 use Rattle.tbl_load.proofs.Journals.{length-left_of}
 use Rattle.core_port.specs.Words.{budget_of}
 use Rattle.core_port.proofs.Histories.{none_of_them}

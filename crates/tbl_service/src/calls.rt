@@ -1,5 +1,4 @@
 //! What the calls of all ports have in common.
-ghost use Rattle.std.specs.Prelude.{◌≡◌};
 ghost use Rattle.tbl_words.specs.declared.calls.TblAnswer.{TblAnswer};
 ghost use Rattle.tbl_words.specs.declared.history.Call.{Call};
 ghost use Rattle.tbl_blocks.specs.Held.{HeldViews};

@@ -1,5 +1,5 @@
 -- An application with its calls, from turn to turn.
-use Rattle.std.proofs.Common.{◌≡◌, ◌⊎◌, inl, inr, ℕ, ◌≤◌, ◌++◌, true, false, refl, ap, sym, ◌∙◌, subst}
+use Rattle.std.proofs.Common.{◌≡◌, inl, inr, ℕ, ◌≤◌, ◌++◌, true, false, ap, sym, ◌∙◌, subst}
 use Rattle.atomic_table.specs.Seated.{TableId}
 use Rattle.sb_calls.specs.Bags.{HasBag, CalledByOthers}
 use Rattle.bus_words.specs.Bus.{has_ended, standing_of}
@@ -13,10 +13,9 @@ use Rattle.app_calls.specs.Callers.{Caller, Meets}
 use Rattle.app_calls.specs.TableCallers.{MeetsTables}
 use Rattle.app_script.specs.Script.{ScriptText, app_at}
 use Rattle.app_run.specs.Rounds.{histories_with}
-use Rattle.app_run.specs.Runners.{Services, Equipped, Progress}
+use Rattle.app_run.specs.Runners.{Progress}
 use Rattle.app_run.specs.Turns.{MayTurn, TakesTurnBy, services_of, with_bags}
 use Rattle.app_run.proofs.TurnLaws.{both}
-use Rattle.script_runs.specs.Histories.{Histories}
 use Rattle.script_runs.specs.TableTrace.{TableTrace, first_handles, own_table_entries}
 use Rattle.script_runs.specs.Told.{receipts_told}
 use Rattle.script_runs.specs.Trace.{Trace, first_registers, own_entries}

@@ -1,12 +1,10 @@
 -- The main part of the bus beside ports that made no call and saw none.
-use Rattle.std.proofs.Common.{◌≡◌, ◌⊎◌, ⊎_elim, ℕ, ◌+◌, ◌≤◌, List, [], ◌∷◌, ◌++◌, length, refl, ap, sym, ◌∙◌, subst, arith}
+use Rattle.std.proofs.Common.{◌≡◌, ◌⊎◌, ⊎_elim, ℕ, ◌+◌, ◌≤◌, List, [], ◌∷◌, ◌++◌, refl, ap, sym, ◌∙◌, subst, arith}
 use mathlib.Core.List.{IsPrefix}
 use mathlib.Core.Logic.{dite}
 use native.Mathlib.Decide.{ℕ_discrete}
 use Rattle.atomic_table.specs.Seated.{TableId}
-use Rattle.bus_words.specs.declared.history.Entry.{Entry}
 use Rattle.bus_words.specs.Runs.{own_entries}
-use Rattle.lend_block.specs.declared.note.Note.{Note}
 use Rattle.sb_calls.specs.Core.{Core}
 use Rattle.bus_service.specs.Ports.{Begins, KeepsLongerOf, MainView, PortView, with_history}
 use Rattle.app_script.specs.Script.{ScriptText}

@@ -1,22 +1,21 @@
 -- Ports that were joined, and services that were closed behind them.
-use Rattle.std.proofs.Common.{◌≡◌, ◌⊎◌, inl, inr, ℕ, suc, ◌+◌, ◌<◌, ◌≤◌, All, Contains, List, [], ◌∷◌, ◌++◌, length, map, refl, ap, sym, ◌∙◌, subst, arith}
+use Rattle.std.proofs.Common.{◌≡◌, inl, inr, ℕ, ◌+◌, ◌<◌, ◌≤◌, All, Contains, List, [], ◌∷◌, ◌++◌, length, map, refl, ap, sym, ◌∙◌, subst, arith}
 use Rattle.std.specs.List.{range_with_len}
 use Rattle.std.proofs.lemmas.List.{length-map, length-replicate, map-append}
 use Rattle.std.proofs.lemmas.List.Elements.{All-nil, All-head, All-tail, All-weaker, All-push, All-contains_itself, Contains-push, Contains-append_left, Contains-append_right}
-use mathlib.Core.List.{IsPrefix}
 use mathlib.Core.Logic.{dite}
 use native.Mathlib.Decide.{ℕ_discrete}
 use Rattle.atomic_table.specs.Seated.{TableId}
 use Rattle.fsw_base.proofs.Prefix.{prefix_self, prefix_trans}
 use Rattle.bus_words.specs.declared.history.Entry.{Entry}
-use Rattle.bus_words.specs.Bus.{Active, opening}
+use Rattle.bus_words.specs.Bus.{opening}
 use Rattle.bus_words.specs.Machine.{IsLegal}
 use Rattle.sb_calls.specs.Core.{Core, IsLegalCore, apps_of}
 use Rattle.tbl_words.specs.declared.history.Entry.{Entry as TableEntry}
 use Rattle.tbl_words.specs.Machine.{IsLegal as IsLegalAtTables}
 use Rattle.tbl_words.specs.Tables.{opening as no_tables}
 use Rattle.tbl_load.specs.Core.{Core as TableCore, IsLegalCore as AreLegalTables, apps_of as table_apps_of}
-use Rattle.bus_service.specs.Ports.{DoneView, MainView, Begins, KeepsLongerOf}
+use Rattle.bus_service.specs.Ports.{MainView, Begins, KeepsLongerOf}
 use Rattle.tbl_service.specs.Ports.{MainView as TablesMainView, Begins as BeginsAtTables, KeepsLongerOf as KeepsLongerAtTables}
 use Rattle.app_script.specs.Script.{Application, ScriptText, app_at}
 use Rattle.script_runs.specs.Histories.{Histories}
@@ -28,7 +27,6 @@ use Rattle.script_runs.specs.Trace.{Trace, first_registers, own_entries}
 use Rattle.script_runs.specs.Written.{first_written}
 use Rattle.script_runs.proofs.ScriptHistories.{legal-known}
 use Rattle.script_runs.proofs.TableHistories.{legal-known as table_legal-known}
-use Rattle.app_run.specs.Openings.{budgets_for}
 use Rattle.app_run.specs.Runners.{histories_of}
 use Rattle.script_settings.specs.Accounts.{budget_of}
 use Rattle.thread_run.specs.declared.works.Done.{Done}
@@ -91,7 +89,7 @@ begins-longer one other kept (inr longer) =
     subst (λ core. Begins one core × Begins other core) (sym longer.1)
     (record { entries = prefix_self one.log.entries; notes = prefix_self one.notes }, longer.0)
 
-same-longer : (one other kept : Core) → KeepsLongerOf one other kept → (kept.limits ≡ one.limits) × (kept.log.budgets ≡ one.log.budgets)
+pub same-longer : (one other kept : Core) → KeepsLongerOf one other kept → (kept.limits ≡ one.limits) × (kept.log.budgets ≡ one.log.budgets)
 same-longer one other kept (inl longer) = (ap (λ (core : Core). core.limits) longer.1, ap (λ (core : Core). core.log.budgets) longer.1)
 same-longer one other kept (inr longer) = (ap (λ (core : Core). core.limits) longer.1, ap (λ (core : Core). core.log.budgets) longer.1)
 
@@ -112,14 +110,14 @@ joined-one script lock ds d main now j same keeps apps ended =
           (λ x before. begins-trans x.port.seen main.seen now.seen before longer.0) ds j.begun) longer.1;
     }
 
-begins-trans_at_tables : (one two three : TableCore) → BeginsAtTables one two → BeginsAtTables two three → BeginsAtTables one three
+pub begins-trans_at_tables : (one two three : TableCore) → BeginsAtTables one two → BeginsAtTables two three → BeginsAtTables one three
 begins-trans_at_tables one two three first then = record {
   entries = prefix_trans one.log.entries two.log.entries three.log.entries first.entries then.entries;
   notes = prefix_trans one.notes two.notes three.notes first.notes then.notes;
 }
 
 -- both begin the longer one, whose limits and budgets are the first one's
-begins-longer_at_tables : (one other kept : TableCore) → KeepsLongerAtTables one other kept → BeginsAtTables one kept × BeginsAtTables other kept
+pub begins-longer_at_tables : (one other kept : TableCore) → KeepsLongerAtTables one other kept → BeginsAtTables one kept × BeginsAtTables other kept
 begins-longer_at_tables one other kept (inl longer) =
     subst (λ core. BeginsAtTables one core × BeginsAtTables other core) (sym longer.1)
     (record { entries = longer.0.entries; notes = longer.0.notes }, record { entries = prefix_self other.log.entries; notes = prefix_self other.notes })
@@ -127,7 +125,7 @@ begins-longer_at_tables one other kept (inr longer) =
     subst (λ core. BeginsAtTables one core × BeginsAtTables other core) (sym longer.1)
     (record { entries = prefix_self one.log.entries; notes = prefix_self one.notes }, longer.0)
 
-same-longer_at_tables : (one other kept : TableCore) → KeepsLongerAtTables one other kept → (kept.limits ≡ one.limits) × (kept.log.budgets ≡ one.log.budgets)
+pub same-longer_at_tables : (one other kept : TableCore) → KeepsLongerAtTables one other kept → (kept.limits ≡ one.limits) × (kept.log.budgets ≡ one.log.budgets)
 same-longer_at_tables one other kept (inl longer) = (ap (λ (core : TableCore). core.limits) longer.1, ap (λ (core : TableCore). core.log.budgets) longer.1)
 same-longer_at_tables one other kept (inr longer) = (ap (λ (core : TableCore). core.limits) longer.1, ap (λ (core : TableCore). core.log.budgets) longer.1)
 

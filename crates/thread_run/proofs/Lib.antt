@@ -1,4 +1,4 @@
-mod Threads
+pub mod Threads
 pub mod BetweenTurns
 pub mod FirstTurns
 pub mod Joins

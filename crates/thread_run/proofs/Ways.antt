@@ -1,11 +1,10 @@
 -- An application on its way: what others do leaves it there, and its own turns take it on.
-use Rattle.std.proofs.Common.{◌≡◌, ◌≢◌, ◌⊎◌, inl, inr, ℕ, ◌≤◌, ◌==◌, Bool, true, false, true≢false, cond, ne_eqb, eq-eqb, All, List, [], ◌∷◌, ◌++◌, append_assoc, append-nil, length, filter, Option, Some, None, refl, ap, sym, ◌∙◌, subst, arith}
+use Rattle.std.proofs.Common.{◌≡◌, ◌≢◌, ℕ, ◌≤◌, ◌==◌, true, false, cond, ne_eqb, eq-eqb, All, List, [], ◌∷◌, ◌++◌, append_assoc, append-nil, length, Option, Some, None, refl, ap, sym, ◌∙◌, subst}
 use Rattle.std.proofs.lemmas.List.Elements.{All-head, All-tail, filter-append}
 use Rattle.lend_block.specs.Loan.{LentBytes}
-use Rattle.lend_block.specs.declared.note.Note.{Note}
 use Rattle.buf_desc.specs.Held.{Holding}
 use Rattle.bus_words.specs.declared.history.Entry.{Entry}
-use Rattle.bus_words.specs.Bus.{Standing, Active, Waiting, Ended, standing_of}
+use Rattle.bus_words.specs.Bus.{Standing, Ended, standing_of}
 use Rattle.bus_words.specs.Machine.{IsLegal}
 use Rattle.bus_words.proofs.Finds.{Each}
 use Rattle.sb_calls.specs.Bags.{HasBag, CalledByOthers}
@@ -27,8 +26,8 @@ use Rattle.script_runs.proofs.OneTurn.{IsTurn, is_ended, listed, turn-in}
 use Rattle.script_runs.proofs.TableTurn.{IsTableTurn, table-turn-in}
 use Rattle.app_calls.proofs.BufferBytes.{bag-written}
 use Rattle.app_run.specs.Rounds.{HasTold, histories_with, telling_now, told_on}
-use Rattle.app_run.specs.Runners.{Services, Progress, Equipped, running_of, standing_for, standing_in, going}
-use Rattle.app_run.specs.Turns.{ByTurn, OthersAtBus, OthersAtTables, Stands, TakesTurn, so_far}
+use Rattle.app_run.specs.Runners.{Services, Progress, Equipped, running_of, standing_for, standing_in}
+use Rattle.app_run.specs.Turns.{ByTurn, OthersAtBus, OthersAtTables, TakesTurn, so_far}
 use Rattle.app_run.proofs.OthersLaws.{with_entries, with_table_entries, called-front, called-front_at_tables, stands-others, stands-others_at_tables}
 use Rattle.app_run.proofs.RoundLaws.{moved-same, told-called, told-called_at_tables, told-own}
 use Rattle.app_run.proofs.TurnLaws.{both}

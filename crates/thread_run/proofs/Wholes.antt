@@ -1,5 +1,5 @@
 -- The script of a run, with the application beside its own.
-use Rattle.std.proofs.Common.{◌≡◌, ℕ, zero, suc, ◌+◌, ◌-◌, ◌≤◌, false, List, [], ◌∷◌, ◌++◌, length, map, fold, replicate, Option, Some, None, refl, ap, sym, ◌∙◌, arith, length-append}
+use Rattle.std.proofs.Common.{◌≡◌, ℕ, zero, suc, ◌+◌, ◌-◌, ◌≤◌, false, List, [], ◌∷◌, ◌++◌, length, fold, replicate, Option, Some, None, refl, ap, sym, ◌∙◌, arith, length-append}
 use Rattle.std.proofs.lemmas.List.{map-append}
 use lib.ListN.{get_or-append}
 use Rattle.fsw_base.specs.declared.config.Budget.{Budget}
@@ -9,7 +9,7 @@ use Rattle.script_settings.specs.declared.account.Account.{Account}
 use Rattle.script_settings.specs.Accounts.{no_calls, charge_of, waits_of, buffers_of, sizes_after, with_line, account_of, budget_in, budget_of}
 use Rattle.app_script.specs.Script.{Application, ScriptText, app_at}
 use Rattle.app_run.specs.Openings.{budgets_for}
-use Rattle.app_run.specs.Runners.{Progress, beginning}
+use Rattle.app_run.specs.Runners.{beginning}
 use Rattle.script_runs.specs.TableTrace.{first_handles}
 use Rattle.script_runs.specs.Trace.{first_registers}
 use Rattle.thread_run.specs.Whole.{lines_for, app_beside, whole_of, CanBeBeside}

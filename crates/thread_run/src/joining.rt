@@ -1,5 +1,5 @@
 //! Joins the ports of applications that are through, and closes both services.
-ghost use Rattle.std.specs.Prelude.{◌≡◌, ◌≤◌, ◌++◌, [], length, map, vec_capacity};
+ghost use Rattle.std.specs.Prelude.{◌≡◌, ◌≤◌, [], length, map, vec_capacity};
 ghost use Rattle.std.specs.List.{range_with_len};
 ghost use Rattle.app_run.specs.Runners.{histories_of};
 ghost use Rattle.bus_service.specs.Ports.{Begins};
@@ -16,9 +16,9 @@ use crate::opening::OpenServices;
 use crate::works::{Done, RunParts};
 use app_run::Finished;
 use app_script::Script;
-use bus_service::{Bus, BusMain};
+use bus_service::BusMain;
 use bus_words::ReceiptList;
-use tbl_service::{Tables, TblMain};
+use tbl_service::TblMain;
 
 /// Joins what is left of all applications, and closes both services.
 pub(crate) fn close_all<'r>(

@@ -1,8 +1,7 @@
-use Rattle.std.proofs.Common.{◌≡◌, ℕ, ◌+◌, ◌≤◌, length, ap, sym, ◌∙◌, subst}
-use Rattle.bus_service.specs.Ports.{MainView, PortView}
+use Rattle.std.proofs.Common.{length, ap, sym, ◌∙◌}
+use Rattle.bus_service.specs.Ports.{MainView}
 use Rattle.sb_calls.specs.Core.{Core}
 use Rattle.thread_run.specs.Whole.{whole}
-use Rattle.thread_run.specs.Works.{MayWork}
 use Rattle.thread_run.proofs.FreshPorts.{met-main, quiet-more, same-work}
 use Rattle.thread_run.proofs.meeting.+meet_works.Goals as goal
 

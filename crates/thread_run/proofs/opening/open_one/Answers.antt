@@ -1,4 +1,4 @@
-use Rattle.std.proofs.Common.{◌≡◌, ◌∙◌, ◌+◌, ◌-◌, ◌≤◌, ℕ, suc, refl, sym, subst, arith}
+use Rattle.std.proofs.Common.{◌≡◌, ◌∙◌, ◌+◌, ◌-◌, ◌≤◌, ℕ, suc, sym, subst, arith}
 use Rattle.fsw_base.specs.Limits.{Limits}
 use Rattle.thread_run.specs.Whole.{whole}
 use Rattle.thread_run.proofs.Wholes.{limits-whole, apps-within, beginning-whole}

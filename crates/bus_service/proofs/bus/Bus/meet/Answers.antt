@@ -1,4 +1,4 @@
-use Rattle.std.proofs.Common.{◌≡◌, ◌∙◌, List, ap, ap₂, sym, subst}
+use Rattle.std.proofs.Common.{◌∙◌, List, ap, ap₂, sym, subst}
 use mathlib.Core.List.{IsPrefix}
 use Rattle.fsw_base.specs.Limits.{Limits}
 use Rattle.fsw_base.specs.declared.config.Budget.{Budget}

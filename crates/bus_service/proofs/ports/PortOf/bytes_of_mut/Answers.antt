@@ -1,6 +1,6 @@
 use Rattle.std.proofs.Common.{sym, subst}
 use Rattle.lend_block.specs.Loan.{LentBytes}
-use Rattle.buf_desc.specs.Held.{Holding, with_bytes_at}
+use Rattle.buf_desc.specs.Held.{Holding}
 use Rattle.sb_calls.specs.Bags.{HasBag}
 use Rattle.bus_service.proofs.ports.PortOf.bytes_of_mut.Goals as goal
 

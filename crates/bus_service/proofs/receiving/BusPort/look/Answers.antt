@@ -1,7 +1,6 @@
 use Rattle.std.proofs.Common.{◌≡◌, ap, sym, ◌∙◌, subst}
 use Rattle.bus_words.specs.declared.history.Call.TheVariants.{Look}
 use Rattle.bus_words.specs.Bus.{standing_of, waited_on}
-use Rattle.sb_calls.specs.declared.results.Pended.TheVariants.{Pending}
 use Rattle.sb_calls.specs.Bags.{HasBag}
 use Rattle.sb_calls.specs.Core.{MayCall, state_of}
 use Rattle.bus_service.specs.Inside.{with_bag}

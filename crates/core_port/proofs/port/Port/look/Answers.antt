@@ -1,4 +1,4 @@
-use Rattle.std.proofs.Common.{◌≡◌, ℕ, ◌≤◌, Bool, true, length, Some, ap, sym, ◌∙◌, subst, refl}
+use Rattle.std.proofs.Common.{◌≤◌, Bool, true, length, Some, ap, sym, ◌∙◌, subst, refl}
 use Rattle.turn_lock.specs.Seats.{view_of, entered_view, left_view}
 use Rattle.turn_lock.proofs.Callers.{ready_in}
 use Rattle.core_port.specs.Histories.{history_of}

@@ -1,4 +1,4 @@
-use Rattle.std.proofs.Common.{◌≡◌, ℕ, ◌≤◌, length, All, subst}
+use Rattle.std.proofs.Common.{◌≡◌, ◌≤◌, length, All, subst}
 use Rattle.core_port.specs.Histories.{own_entries}
 use Rattle.core_port.specs.Ports.{PortView}
 use Rattle.core_port.proofs.Mains.{port_known, port_called, port_mine}

@@ -1,4 +1,4 @@
-use Rattle.std.proofs.Common.{ℕ, ◌≤◌, All, subst}
+use Rattle.std.proofs.Common.{◌≤◌, All, subst}
 use Rattle.core_port.specs.Ports.{MainView}
 use Rattle.core_port.proofs.Mains.{main_called}
 use Rattle.core_port.proofs.service.Main.recall.Goals as goal

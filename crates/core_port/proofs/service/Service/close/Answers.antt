@@ -1,4 +1,4 @@
-use Rattle.std.proofs.Common.{◌≡◌, ℕ, [], ap, sym, ◌∙◌, subst, map, All, Contains}
+use Rattle.std.proofs.Common.{◌≡◌, ap, sym, ◌∙◌, subst, map, All, Contains}
 use Rattle.turn_lock.specs.Seats.{view_of}
 use Rattle.core_port.specs.Histories.{own_entries}
 use Rattle.core_port.specs.Ports.{MainView, Begins}

@@ -1,4 +1,4 @@
-use Rattle.std.proofs.Common.{ℕ, map, ◌++◌, ◌∷◌, [], ap, ap₂, sym, ◌∙◌, subst}
+use Rattle.std.proofs.Common.{ℕ, map, ◌++◌, ◌∷◌, [], ap, ap₂, ◌∙◌, subst}
 use Rattle.turn_lock.specs.Seats.{view_of}
 use Rattle.core_port.specs.Histories.{entries_in}
 use Rattle.core_port.specs.Inside.{seen_in, ended_in}

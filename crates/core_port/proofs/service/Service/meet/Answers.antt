@@ -1,15 +1,12 @@
-use Rattle.std.proofs.Common.{◌≡◌, ◌∙◌, ap, ap₂, sym, subst}
+use Rattle.std.proofs.Common.{◌∙◌, ap, sym, subst}
 use mathlib.Core.List.{IsPrefix}
-use Rattle.turn_lock.specs.Seats.{Known, KeepsLonger, view_of, again_view}
+use Rattle.turn_lock.specs.Seats.{KeepsLonger, view_of}
 use Rattle.turn_lock.specs.Views.{entries_of}
-use Rattle.turn_lock.proofs.Callers.{ready_in}
-use Rattle.core_port.specs.Words.{Fixed}
 use Rattle.core_port.specs.Histories.{entries_in, own_entries}
 use Rattle.core_port.specs.Inside.{seen_in}
 use Rattle.core_port.specs.Ports.{MainView, PortView, KeepsLongerOf}
-use Rattle.core_port.specs.declared.history.NotedCall.{NotedCall}
 use Rattle.core_port.proofs.Mains.{joins, keeps_longer, entries_are}
-use Rattle.core_port.proofs.Meetings.{none_ended, own_begins, one_opening, same_port, port_again}
+use Rattle.core_port.proofs.Meetings.{none_ended, own_begins}
 use Rattle.core_port.proofs.service.Service.meet.Goals as goal
 
 pub meet-requires-clause-none : goal.meet-requires-clause-none

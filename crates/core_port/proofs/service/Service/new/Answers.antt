@@ -1,4 +1,4 @@
-use Rattle.std.proofs.Common.{◌≡◌, [], ap, sym, ◌∙◌, subst}
+use Rattle.std.proofs.Common.{[], ap, sym, ◌∙◌}
 use Rattle.atomic_table.specs.Seated.{TableId}
 use Rattle.core_port.specs.Inside.{BoxedView}
 use Rattle.core_port.specs.Ports.{MainView}

@@ -1,8 +1,7 @@
-use Rattle.std.proofs.Common.{◌≡◌, ℕ, ◌<◌, ◌≤◌, ◌++◌, ◌∷◌, [], length, Contains, ap, ap₂, sym, ◌∙◌, subst}
+use Rattle.std.proofs.Common.{ℕ, ◌<◌, ◌≤◌, ◌++◌, ◌∷◌, [], length, Contains, ap, ap₂, sym, ◌∙◌, subst}
 use Rattle.atomic_table.specs.Seated.{TableId}
 use Rattle.turn_lock.specs.Seats.{view_of}
 use Rattle.turn_lock.proofs.Callers.{ready_in}
-use Rattle.core_port.specs.Histories.{the_fixed}
 use Rattle.core_port.specs.Ports.{PortView, MainView}
 use Rattle.core_port.proofs.Mains.{room_left, one_app_more, stays_main, new_port, is_port, fixed_is}
 use Rattle.core_port.proofs.service.Service.port.Goals as goal
