@@ -1,4 +1,4 @@
-"""Judges a report by the program's word `check`, and by the executable model's checker where it is there."""
+"""Judges a report by the program's word `check`, and by the executable model's checker where it is there; those of a bridge by the model alone."""
 import os
 import re
 import subprocess
@@ -28,3 +28,16 @@ def fault_of(script, report, model=None):
     if model and line != (by_model[0] if by_model else 0):
         return f"illegal:{line} by the program, and by the model {by_model}"
     return f"line {line} of the report is no run's" if line else None
+
+
+def sent_by_bridge(reports):
+    """What the bridge, the last application, sends on side 2, each message with its size and sum; and how each was answered."""
+    side = reports.partition(b"\nside 2\n")[2]
+    bridge = max(map(int, re.findall(rb"(?m)^\d+ a(\d+) end ->", side)), default=0)
+    return re.findall(rb"(?m)^\d+ a%d (send .*) -> (\w+)" % bridge, side)
+
+
+def fault_of_bridge(plan, reports, model=None):
+    """What is wrong with both reports of a plan, by the model; nothing where there is none."""
+    fault = model and model.bridge_check(model.read_plan(plan), reports)
+    return f"not bridged, line {fault[0]}: {fault[1]}" if fault else None

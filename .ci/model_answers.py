@@ -13,8 +13,19 @@ def model_of(path):
     return model
 
 
-def compared(wanted, path):
-    """Prints each line of the file that isn't the model's; the status: 0 where all are, else 1."""
+def config_with(model, limits):
+    """The model's usual configuration but for these limits."""
+    config = model.Config()
+    for limit, value in limits.items():
+        setattr(config, limit, value)
+    return config
+
+
+def told(wanted, path=None):
+    """Prints the model's answers or, with a path, each line of this file that isn't one; the status: 0 where all are, else 1."""
+    if not path:
+        print("\n".join(wanted))
+        return 0
     with open(path) as file:
         answers = file.read().splitlines()
     wrong = [n for n, pair in enumerate(zip(wanted, answers), 1) if pair[0] != pair[1]]

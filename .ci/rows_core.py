@@ -12,7 +12,7 @@ from types import SimpleNamespace
 
 sys.dont_write_bytecode = True  # nothing is left beside the scripts
 
-from model_answers import STAGE, compared, model_of
+from model_answers import STAGE, config_with, model_of, told
 
 NEWLINE = "\n"
 
@@ -453,9 +453,7 @@ APPLICATIONS = 16
 
 def opened(model, limits, starts, applications):
     """The model's bus and its tables before the first call."""
-    config = model.Config()
-    for limit, value in limits.items():
-        setattr(config, limit, value)
+    config = config_with(model, limits)
     config.starts.update(starts)
     return model.Bus(config, applications, model.stage_number(STAGE)), model.Tables(config, applications)
 
@@ -545,11 +543,7 @@ def largest(model):
 def main():
     model = model_of(sys.argv[1])
     wanted = [line for example in EXAMPLES for line in [example[0], *report(model, example)]]
-    wanted += ["the largest configuration", *largest(model)]
-    if len(sys.argv) < 3:
-        print("\n".join(wanted))
-        return 0
-    return compared(wanted, sys.argv[2])
+    return told([*wanted, "the largest configuration", *largest(model)], *sys.argv[2:])
 
 
 sys.exit(main())

@@ -8,7 +8,7 @@ import sys
 
 sys.dont_write_bytecode = True  # nothing is left beside the scripts
 
-from model_answers import STAGE, compared, model_of
+from model_answers import STAGE, model_of, told
 
 BYTES = {b"n": b"\n", b"r": b"\r", b"t": b"\t"}
 
@@ -45,10 +45,7 @@ def main():
     model = model_of(sys.argv[1])
     with open(sys.argv[2], "rb") as table:
         wanted = [answer(model, spelled(line)) for line in table.read().splitlines()]
-    if len(sys.argv) < 4:
-        print("\n".join(wanted))
-        return 0
-    return compared(wanted, sys.argv[3])
+    return told(wanted, *sys.argv[3:])
 
 
 sys.exit(main())

@@ -10,7 +10,7 @@ import sys
 
 sys.dont_write_bytecode = True  # nothing is left beside the scripts
 
-from model_answers import compared, model_of
+from model_answers import config_with, model_of, told
 
 # A title, the limits that aren't the usual ones, and how many applications there are, each with its steps.
 EXAMPLES = [
@@ -260,10 +260,7 @@ APPLICATIONS = 16
 
 def opened(model, limits, applications):
     """The model's tables before the first call."""
-    config = model.Config()
-    for limit, value in limits.items():
-        setattr(config, limit, value)
-    return model.Tables(config, applications)
+    return model.Tables(config_with(model, limits), applications)
 
 
 def call_of(word, given):
@@ -327,11 +324,7 @@ def largest(model):
 def main():
     model = model_of(sys.argv[1])
     wanted = [line for example in EXAMPLES for line in [example[0], *report(model, example)]]
-    wanted += ["the largest configuration", *largest(model)]
-    if len(sys.argv) < 3:
-        print("\n".join(wanted))
-        return 0
-    return compared(wanted, sys.argv[2])
+    return told([*wanted, "the largest configuration", *largest(model)], *sys.argv[2:])
 
 
 sys.exit(main())

@@ -7,11 +7,11 @@ has its oldest line overwritten. `everything` has 20,000 lines of every kind tha
 has every limit at its greatest and sixteen applications, and fills what it can. `two`, `four` and `sixteen` make the same 9,600
 sends and receives, by so many applications that each have a pipe of their own; `relayed` has two applications that each wait for
 what the other sends, 2,000 messages in all. In `working` one application makes 9,000 sends and receives, in `waiting` it makes the
-same beside fifteen that wait for its last message; in `loading` and `sleeping` it loads and takes a table in place of that. `alone`
-is an application without a line.
+same beside fifteen that wait for its last message, and in `present` beside fifteen that make the same calls but only ask for a
+message; in `loading` and `sleeping` it loads and takes a table in place of that. `alone` is an application without a line.
 
     scripts.py largest|mixed|longest|narrow|wide|cycles|copied|written|queued|missed|logged|everything|greatest
-    scripts.py two|four|sixteen|relayed|working|waiting|loading|sleeping|alone
+    scripts.py two|four|sixteen|relayed|working|present|waiting|loading|sleeping|alone
 """
 import sys
 
@@ -214,20 +214,20 @@ def relayed():
         yield from ("pend p0", "send 0x0801 64 1")
 
 
-def works(lines, waiting):
-    """One that has these two lines 9,000 times, and so many that wait for its last message."""
+def works(lines, others, ask="pend p0"):
+    """One that has these two lines 9,000 times, and so many that ask for its last message: they wait for it by `pend`."""
     yield from ("app A", "create p0 4 A", "sub 0x0801 p0", "treg t0 T 64 1")
     for _ in range(9000):
         yield from lines
     yield "send 0x0802 8 1"
-    for app in range(waiting):
-        yield from (f"app W{app}", f"create p0 4 W{app}", "sub 0x0802 p0", "pend p0")
+    for app in range(others):
+        yield from (f"app W{app}", f"create p0 4 W{app}", "sub 0x0802 p0", ask)
 
 
 def main():
     ways = {"two": together(2), "four": together(4), "sixteen": together(16), "relayed": relayed(), "alone": ["app A"]}
     bus, tables = ("send 0x0801 64 1", "recv p0"), ("tload t0 0 fill:64:1", "tget t0")
-    ways |= {"working": works(bus, 0), "waiting": works(bus, 15), "loading": works(tables, 0), "sleeping": works(tables, 15)}
+    ways |= {"working": works(bus, 0), "present": works(bus, 15, "recv p0"), "waiting": works(bus, 15), "loading": works(tables, 0), "sleeping": works(tables, 15)}
     if sys.argv[1] in ways:
         sys.stdout.write("\n".join(ways[sys.argv[1]]) + "\n")
         return

@@ -38,16 +38,23 @@ SECONDS_BETWEEN_LOOKS = 5
 class Draw:
     """Draws the lines of each application of one script."""
 
-    def __init__(self, seed):
+    def __init__(self, seed, apps=APPS):
         self.r = random.Random(seed)
-        self.shape = self.r.choice((self.ring, self.pairs, self.everybody, self.mixed, self.mixed))
+        self.apps = apps
+        self.shape = self.r.choice(self.shapes())
         self.rounds = self.r.randint(1, 12)
+
+    def shapes(self):
+        return self.ring, self.pairs, self.everybody, self.mixed, self.mixed
 
     def script(self):
         depth = self.r.choice((1, 2, 16, 64))
+        lines = [*self.limits(depth), *(line for app in range(self.apps) for line in self.application(app, depth))]
+        return "\n".join(lines) + "\n"
+
+    def limits(self, depth):
         # Memory that is small is opened fast, and may run out.
-        limits = [f"set pool {self.r.choice((2048, 16384, 32768))}", "set tablepool 4096", "set tablemax 64"]
-        return "\n".join(limits + [line for app in range(APPS) for line in self.application(app, depth)]) + "\n"
+        return [f"set pool {self.r.choice((2048, 16384, 32768))}", "set tablepool 4096", "set tablemax 64"]
 
     def application(self, app, depth):
         yield f"app A{app + 1}"
@@ -66,7 +73,7 @@ class Draw:
 
     def ring(self, app):
         """Each waits for the one before it and sends to the next; the first one begins."""
-        following = FIRST_ID + (app + 1) % APPS
+        following = FIRST_ID + (app + 1) % self.apps
         for _ in range(self.rounds):
             if app == 0:
                 yield from self.send(following)
@@ -82,10 +89,10 @@ class Draw:
 
     def everybody(self, app):
         """Each sends to all others, and waits for as many messages."""
-        for other in range(APPS):
+        for other in range(self.apps):
             if other != app:
                 yield from self.send(FIRST_ID + other)
-        for _ in range(APPS - 1):
+        for _ in range(self.apps - 1):
             yield "pend p0"
 
     def mixed(self, app):
@@ -122,10 +129,10 @@ def how_it_goes(pid):
     return all(stat[0] == "S" for stat in stats), sum(int(stat[11]) + int(stat[12]) for stat in stats)
 
 
-def answered(text, seconds):
+def answered(word, text, seconds):
     """How a run on threads ends, and what it writes; nothing where, after so many seconds, all its threads
     sleep and go on sleeping, or where it goes on for ever. Work beside it may hold it up for longer."""
-    process = subprocess.Popen([PROGRAM, "run"], stdin=subprocess.PIPE, stdout=subprocess.PIPE, stderr=subprocess.PIPE)
+    process = subprocess.Popen([PROGRAM, word], stdin=subprocess.PIPE, stdout=subprocess.PIPE, stderr=subprocess.PIPE)
     before, given = None, text
     for _ in range(MOST_LOOKS):
         try:
@@ -143,55 +150,69 @@ def answered(text, seconds):
 
 
 class Tally:
-    """What was run, and what was found."""
+    """What was run, and what was found. Each kind has its word of the program, draws the texts that are run,
+    and says what is wrong in a report and what the runs left."""
 
     def __init__(self, model, seconds, keep):
         self.model, self.seconds, self.keep = model, seconds, keep
-        self.times, self.reports, self.rotations, self.findings = [], set(), 0, 0
+        self.times, self.findings = [], 0
 
     def run_often(self, seed, times):
-        text = script_of(seed)
+        text = self.text_of(seed)
         for _ in range(times):
             self.run(seed, text)
-        rotation = subprocess.run([PROGRAM, "lockstep"], input=text, capture_output=True).stdout
-        self.rotations += hash((seed, rotation)) in self.reports
 
     def run(self, seed, text):
         began = time.monotonic()
-        ended = answered(text, self.seconds)
+        ended = answered(self.word, text, self.seconds)
         if not ended:
             self.find(seed, text, b"", "it sleeps for ever, or goes on without an end")
             return
         self.times.append(time.monotonic() - began)
         status, report, said = ended
-        wrong = self.fault_of(text, status, report, said)
+        wrong = f"status {status}, {said[:200]!r}" if status or said else self.wrong_in(seed, text, report)
         if wrong:
             self.find(seed, text, report, wrong)
-        self.reports.add(hash((seed, report)))
-
-    def fault_of(self, text, status, report, said):
-        """What is wrong with how it ended, or with its report."""
-        if status or said:
-            return f"status {status}, {said[:200]!r}"
-        return fault_of(text, report, self.model)
 
     def find(self, seed, text, report, wrong):
         self.findings += 1
         print(f"seed {seed}: {wrong}", flush=True)
         if self.keep:
             Path(self.keep).mkdir(parents=True, exist_ok=True)
-            Path(self.keep, f"{seed}.fsw").write_bytes(text)
-            Path(self.keep, f"{seed}.report").write_bytes(report)
+            for ending, kept in zip(self.endings, (text, report)):
+                Path(self.keep, f"{seed}.{ending}").write_bytes(kept)
 
     def told(self):
         times = sorted(self.times) or [0]
         middle, longest = times[len(times) // 2], times[-1]
-        left = f"{len(self.reports)} different reports, {self.rotations} of them the rotation's"
-        return f"{len(self.times)} runs ended with {left}, {1000 * middle:.1f} ms in the middle, {1000 * longest:.1f} at most; {self.findings} findings"
+        return f"{len(self.times)} runs ended with {self.left()}, {1000 * middle:.1f} ms in the middle, {1000 * longest:.1f} at most; {self.findings} findings"
 
 
-def main():
-    words = argparse.ArgumentParser(description=__doc__, formatter_class=argparse.RawDescriptionHelpFormatter)
+class Scripts(Tally):
+    """Scripts on threads, and how many of their reports are the rotation's."""
+
+    word, endings, text_of = "run", ("fsw", "report"), staticmethod(script_of)
+
+    def __init__(self, *given):
+        super().__init__(*given)
+        self.reports, self.rotations = set(), 0
+
+    def run_often(self, seed, times):
+        super().run_often(seed, times)
+        rotation = subprocess.run([PROGRAM, "lockstep"], input=self.text_of(seed), capture_output=True).stdout
+        self.rotations += hash((seed, rotation)) in self.reports
+
+    def wrong_in(self, seed, text, report):
+        self.reports.add(hash((seed, report)))
+        return fault_of(text, report, self.model)
+
+    def left(self):
+        return f"{len(self.reports)} different reports, {self.rotations} of them the rotation's"
+
+
+def main(doc, kind):
+    """Does what the words of the command ask for, by a kind of tally."""
+    words = argparse.ArgumentParser(description=doc, formatter_class=argparse.RawDescriptionHelpFormatter)
     words.add_argument("seed", nargs="?", type=int)
     words.add_argument("--model")
     words.add_argument("--keep")
@@ -199,11 +220,11 @@ def main():
         words.add_argument(f"--{name}", type=int, default=value)
     given = words.parse_args()
     if given.seed is not None:
-        sys.stdout.buffer.write(script_of(given.seed))
+        sys.stdout.buffer.write(kind.text_of(given.seed))
         return 0
     if not given.count:
-        words.error("--count N, how many scripts are run, or the seed of a script")
-    tally = Tally(given.model and model_of(given.model), given.seconds, given.keep)
+        words.error("--count N, how many texts are drawn and run, or the seed of one")
+    tally = kind(given.model and model_of(given.model), given.seconds, given.keep)
     for seed in range(given.first, given.first + given.count):
         tally.run_often(seed, given.times)
     print(tally.told())
@@ -211,4 +232,4 @@ def main():
 
 
 if __name__ == "__main__":
-    sys.exit(main())
+    sys.exit(main(__doc__, Scripts))

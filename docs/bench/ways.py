@@ -4,10 +4,11 @@
     python3 docs/bench/ways.py [--times N] NAME|FILE ..
 
 A script is one of scripts.py beside this file, by its name, or a file. The program is the built one,
-crates/host_run/out/host_run, or PROGRAM's; its report goes to /dev/null. Of N runs each (9, where it isn't
-given) the one with the middle time is told: time by the clock, processor time of the program and of the
-system for it, how often a thread gave the processor up by itself, and was made to, and what was resident
-at most.
+crates/host_run/out/host_run, or PROGRAM's. It has one heap for all threads, as ./fsw runs it; with
+MALLOC_ARENA_MAX=0 in the environment it has as many as glibc makes. Its report goes to /dev/null. Of N runs
+each (9, where it isn't given) the one with the middle time is told: time by the clock, processor time of the
+program and of the system for it, how often a thread gave the processor up by itself, and was made to, and
+what was resident at most.
 """
 import argparse
 import os
@@ -19,6 +20,7 @@ from pathlib import Path
 
 HERE = Path(__file__).resolve().parent
 PROGRAM = os.environ.get("PROGRAM", str(HERE.parent.parent / "crates/host_run/out/host_run"))
+os.environ.setdefault("MALLOC_ARENA_MAX", "1")
 
 
 def taken(word, script):
