@@ -1,4 +1,5 @@
-"""Judges a report by the program's word `check`, and by the executable model's checker where it is there; those of a bridge by the model alone."""
+"""Judges a report by the program's word `check`, and by the model's checker if it is there;
+the reports of a bridge by the model alone."""
 import os
 import re
 import subprocess
@@ -31,13 +32,13 @@ def fault_of(script, report, model=None):
 
 
 def sent_by_bridge(reports):
-    """What the bridge, the last application, sends on side 2, each message with its size and sum; and how each was answered."""
+    """What the bridge, the last application, sends on side 2, and how each send was answered."""
     side = reports.partition(b"\nside 2\n")[2]
     bridge = max(map(int, re.findall(rb"(?m)^\d+ a(\d+) end ->", side)), default=0)
     return re.findall(rb"(?m)^\d+ a%d (send .*) -> (\w+)" % bridge, side)
 
 
 def fault_of_bridge(plan, reports, model=None):
-    """What is wrong with both reports of a plan, by the model; nothing where there is none."""
+    """What is wrong with the reports of a plan, by the model; nothing without a model."""
     fault = model and model.bridge_check(model.read_plan(plan), reports)
     return f"not bridged, line {fault[0]}: {fault[1]}" if fault else None

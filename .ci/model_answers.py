@@ -21,8 +21,9 @@ def config_with(model, limits):
     return config
 
 
-def told(wanted, path=None):
-    """Prints the model's answers or, with a path, each line of this file that isn't one; the status: 0 where all are, else 1."""
+def print_or_compare(wanted, path=None):
+    """Prints the model's answers; with a path, the lines of that file that differ.
+    The status: 0 if none does, else 1."""
     if not path:
         print("\n".join(wanted))
         return 0

@@ -12,7 +12,7 @@ from types import SimpleNamespace
 
 sys.dont_write_bytecode = True  # nothing is left beside the scripts
 
-from model_answers import STAGE, config_with, model_of, told
+from model_answers import STAGE, config_with, model_of, print_or_compare
 
 NEWLINE = "\n"
 
@@ -543,7 +543,7 @@ def largest(model):
 def main():
     model = model_of(sys.argv[1])
     wanted = [line for example in EXAMPLES for line in [example[0], *report(model, example)]]
-    return told([*wanted, "the largest configuration", *largest(model)], *sys.argv[2:])
+    return print_or_compare([*wanted, "the largest configuration", *largest(model)], *sys.argv[2:])
 
 
 sys.exit(main())

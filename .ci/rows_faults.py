@@ -8,7 +8,7 @@ import sys
 
 sys.dont_write_bytecode = True  # nothing is left beside the scripts
 
-from model_answers import STAGE, model_of, told
+from model_answers import STAGE, model_of, print_or_compare
 
 BYTES = {b"n": b"\n", b"r": b"\r", b"t": b"\t"}
 
@@ -45,7 +45,7 @@ def main():
     model = model_of(sys.argv[1])
     with open(sys.argv[2], "rb") as table:
         wanted = [answer(model, spelled(line)) for line in table.read().splitlines()]
-    return told(wanted, *sys.argv[3:])
+    return print_or_compare(wanted, *sys.argv[3:])
 
 
 sys.exit(main())

@@ -10,7 +10,7 @@ import sys
 
 sys.dont_write_bytecode = True  # nothing is left beside the scripts
 
-from model_answers import config_with, model_of, told
+from model_answers import config_with, model_of, print_or_compare
 
 # A title, the limits that aren't the usual ones, and how many applications there are, each with its steps.
 EXAMPLES = [
@@ -324,7 +324,7 @@ def largest(model):
 def main():
     model = model_of(sys.argv[1])
     wanted = [line for example in EXAMPLES for line in [example[0], *report(model, example)]]
-    return told([*wanted, "the largest configuration", *largest(model)], *sys.argv[2:])
+    return print_or_compare([*wanted, "the largest configuration", *largest(model)], *sys.argv[2:])
 
 
 sys.exit(main())

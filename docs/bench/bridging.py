@@ -17,7 +17,7 @@ sys.dont_write_bytecode = True  # nothing is left beside the scripts
 
 from waiting import APPS, FIRST_ID, Draw, Tally, main
 
-# waiting.py has made .ci known.
+# waiting.py has put .ci on the path.
 from judging import fault_of_bridge, sent_by_bridge
 
 # The bridge is the last application of each side.

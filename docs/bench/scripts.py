@@ -215,7 +215,7 @@ def relayed():
 
 
 def works(lines, others, ask="pend p0"):
-    """One that has these two lines 9,000 times, and so many that ask for its last message: they wait for it by `pend`."""
+    """One application with these two lines 9,000 times; so many others ask for its last message, or wait for it by `pend`."""
     yield from ("app A", "create p0 4 A", "sub 0x0801 p0", "treg t0 T 64 1")
     for _ in range(9000):
         yield from lines
@@ -227,7 +227,13 @@ def works(lines, others, ask="pend p0"):
 def main():
     ways = {"two": together(2), "four": together(4), "sixteen": together(16), "relayed": relayed(), "alone": ["app A"]}
     bus, tables = ("send 0x0801 64 1", "recv p0"), ("tload t0 0 fill:64:1", "tget t0")
-    ways |= {"working": works(bus, 0), "present": works(bus, 15, "recv p0"), "waiting": works(bus, 15), "loading": works(tables, 0), "sleeping": works(tables, 15)}
+    ways |= {
+        "working": works(bus, 0),
+        "present": works(bus, 15, "recv p0"),
+        "waiting": works(bus, 15),
+        "loading": works(tables, 0),
+        "sleeping": works(tables, 15),
+    }
     if sys.argv[1] in ways:
         sys.stdout.write("\n".join(ways[sys.argv[1]]) + "\n")
         return

@@ -60,11 +60,14 @@ int main(int argc, char **argv) {
     if (count < 1 || count > MOST || pipe(ends) != 0)
         return 1;
     for (int i = 0; i < ROUNDS; i++) {
-        if (fork() == 0) {
+        int status;
+        pid_t child = fork();
+        if (child == 0) {
             double it = round_of(count);
             _exit(write(ends[1], &it, sizeof it) != sizeof it);
         }
-        wait(NULL);
+        if (child < 0 || wait(&status) != child || status != 0)
+            return 1;
         if (read(ends[0], &rounds[i], sizeof rounds[i]) != sizeof rounds[i])
             return 1;
     }

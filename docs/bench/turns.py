@@ -3,8 +3,8 @@
 
     python3 docs/bench/turns.py [--times N] [NAME=PROGRAM ..]
 
-It prints microseconds a round of each application, by the clock and of processors: of plain_bus, which is compiled here, of the
-built cost_port, and of further programs that take the same words, such as cost_port over another lock. They run in turn. Of N
+It prints the microseconds in which each application makes a round, by the clock, and what one round by each takes of all
+processors: of plain_bus, which is compiled here, of the built cost_port, and of further programs that take the same words, such as cost_port over another lock. They run in turn. Of N
 runs each (9, where it isn't given) the least counts, that of a longer run less that of a shorter one; by the clock the middle one
 too. A program that doesn't know so many applications has no figure there.
 """

@@ -1,7 +1,7 @@
 //! Has applications send messages to themselves by ports of the software bus, so that what a call
 //! through a port costs can be measured from outside. The first argument says to how many pipes a
 //! message goes, and the second is the number of rounds of each application, at most 1,000,000.
-//! The third is the number of applications, 1, 2 or 4; several are each on a thread of its own.
+//! The third is the number of applications: 2 or 4, each on a thread of its own; any other is 1.
 //!
 //! ```text
 //! port1, port16   a message of 64 bytes is sent to 1 or 16 pipes, and received on each

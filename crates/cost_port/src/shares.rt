@@ -19,7 +19,7 @@ pub enum Ids {
     First,
     /// The last two.
     Last,
-    /// The one at this place, from 0.
+    /// The one at this place, 0 to 3.
     One(u8),
 }
 
@@ -103,7 +103,7 @@ impl Share {
     }
 }
 
-// How many pipes have the ids before that of this place, with so many each.
+// How many pipes the ids before this place have, if each id has so many.
 fn first_of(place: u8, dests: u32) -> u32
     requires { dests ≤ 255 }
     ensures { result ≤ 765 }
