@@ -23,6 +23,7 @@ while True:
         try: cwd=os.readlink(f'/proc/{p}/cwd')
         except OSError: continue
         name=c[c.index('--crate-name')+1] if '--crate-name' in c else ''
+        if '--test' in c: name+='_tests'
         m=re.match(r"/work/w/([A-Za-z0-9_]+)",cwd) or re.match(r"/tmp/(c2)/",cwd)
         if not m:
             try:
@@ -31,7 +32,7 @@ while True:
             except (OSError,TypeError): pass
         env=read(f'/proc/{p}/environ')
         w=re.search(r'RTWHO=(\w+)',env)
-        who=w[1] if w else 'base' if cwd.startswith('/tmp/rt-copy') else m[1] if m else 'tmp' if cwd.startswith('/tmp') else '?'
+        who=w[1] if w else 'tmp' if cwd.startswith('/tmp/rt-edit') else 'base' if cwd.startswith('/tmp/rt-copy') else m[1] if m else 'tmp' if cwd.startswith('/tmp') else '?'
         v=want.get(f'{who}/{name}',want.get(who,want.get('*',5)))
         try:
             if os.getpriority(os.PRIO_PROCESS,int(p))!=v:

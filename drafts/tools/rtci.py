@@ -7,7 +7,7 @@ loader = importlib.machinery.SourceFileLoader('rtmain', '/opt/rattle/bin/rt')
 spec = importlib.util.spec_from_loader('rtmain', loader); rt = importlib.util.module_from_spec(spec); loader.exec_module(rt)
 plain = rt.need
 rt.need = lambda crate: min(plain(crate), 1_800_000_000)
-CHAIN = set('core_port tbl_service sb_plain sb_calls app_calls bus_service port_calls thread_run host_run report_check bus_replay sb_bridge run_report'.split())
+CHAIN = set('bus_tables bus_store app_run core_port tbl_service sb_plain sb_calls app_calls bus_service port_calls thread_run host_run report_check bus_replay sb_bridge run_report'.split())
 plain_ci = rt.Crate.ci
 def ci(self, flags, tests):
     return plain_ci(self, ['--jobs', '3'] if not tests and self.name in CHAIN else ['--jobs', '3'] if tests and self.name == 'host_run' else flags, tests)
