@@ -5,9 +5,9 @@ use Rattle.lend_block.specs.Loan.{LentBytes}
 use Rattle.buf_desc.specs.Block.{Unsent}
 use Rattle.buf_desc.specs.Held.{Holding, buffer_at}
 use Rattle.bus_words.specs.Bus.{Buffer, unsent_at}
-use Rattle.bus_store.specs.Store.{BufferDesc}
-use Rattle.bus_store.specs.Bag.{Shape, shape_of}
-use Rattle.bus_store.specs.Words.{desc_of, size_for}
+use Rattle.bus_messages.specs.Store.{BufferDesc}
+use Rattle.bus_messages.specs.Bag.{Shape, shape_of}
+use Rattle.bus_messages.specs.Words.{desc_of, size_for}
 use Rattle.sb_calls.specs.Bags.{HasBag, descs_of}
 use Rattle.sb_calls.specs.Core.{Core, apps_of, state_of}
 use Rattle.script_runs.specs.Written.{bytes_in}

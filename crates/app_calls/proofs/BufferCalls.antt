@@ -12,11 +12,11 @@ use Rattle.bus_words.specs.declared.history.Call.TheVariants as calls
 use Rattle.bus_words.specs.Bus.{State}
 use Rattle.bus_words.specs.Machine.{step}
 use Rattle.bus_words.proofs.Steps.{length-standings}
-use Rattle.bus_store.specs.Bag.{HoldsViews}
+use Rattle.bus_messages.specs.Bag.{HoldsViews}
 use Rattle.sb_calls.specs.declared.results.Sent.{Sent}
-use Rattle.sb_plain.specs.Answers.{numbered, done}
+use Rattle.bus_core.specs.Answers.{numbered, done}
 use Rattle.sb_calls.specs.Answers.{sent}
-use Rattle.sb_plain.specs.Bags.{KeepsBuffers}
+use Rattle.bus_core.specs.Bags.{KeepsBuffers}
 use Rattle.sb_calls.specs.Bags.{HasBag, loans_of}
 use Rattle.sb_calls.specs.Core.{Core, Does, MayCall, apps_of, state_of}
 use Rattle.script_runs.specs.Written.{Written, with_buffer, written_after}

@@ -2,7 +2,7 @@
 use Rattle.std.proofs.Common.{refl, inl}
 use Rattle.tbl_words.specs.declared.calls.TblAnswer.{TblAnswer}
 use Rattle.tbl_words.specs.declared.history.Call.{Call}
-use Rattle.tbl_blocks.specs.Held.{HeldViews}
+use Rattle.table_blocks.specs.Held.{HeldViews}
 use Rattle.tbl_load.specs.Bags.{HasBag}
 use Rattle.tbl_load.specs.Core.{Core, Does}
 use Rattle.app_calls.specs.Callers.{Caller}

@@ -3,7 +3,7 @@ use Rattle.std.specs.Prelude.{◌≡◌, ℕ, length}
 use Rattle.std.specs.Option.{option_map}
 use Rattle.lend_block.specs.Loan.{LentBytes}
 use Rattle.buf_desc.specs.Held.{Holding, buffer_at}
-use Rattle.bus_store.specs.Bag.{shape_of}
+use Rattle.bus_messages.specs.Bag.{shape_of}
 use Rattle.script_runs.specs.Written.{Written}
 use Rattle.app_calls.specs.Callers.{written_in}
 

@@ -13,7 +13,7 @@ use Rattle.sb_calls.specs.declared.results.Pended.{Pended}
 use Rattle.sb_calls.specs.Answers.{waited}
 use Rattle.sb_calls.specs.Bags.{HasBag, CalledByOthers}
 use Rattle.sb_calls.specs.Core.{Core, MayCall, Does, Looks, state_of}
-use Rattle.tbl_blocks.specs.Held.{HeldViews}
+use Rattle.table_blocks.specs.Held.{HeldViews}
 use Rattle.tbl_load.specs.Core.{Core as TableCore}
 use Rattle.script_runs.specs.Written.{Written, written_after}
 

@@ -2,7 +2,7 @@
 ghost use Rattle.std.specs.Prelude.{◌≡◌, length};
 ghost use Rattle.std.specs.Option.{option_map};
 ghost use Rattle.buf_desc.specs.Held.{bytes_at};
-ghost use Rattle.sb_plain.specs.Answers.{numbered, done, named, got, pool_told, grant_back, figures_told, event_told};
+ghost use Rattle.bus_core.specs.Answers.{numbered, done, named, got, pool_told, grant_back, figures_told, event_told};
 ghost use Rattle.sb_calls.specs.Answers.{sent, pended};
 ghost use Rattle.sb_calls.specs.Views.{bytes_seen};
 ghost use Rattle.script_runs.specs.Messages.{sent_message};

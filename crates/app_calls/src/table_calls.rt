@@ -1,6 +1,6 @@
 //! A call straight of the core of the tables.
 ghost use Rattle.std.specs.Prelude.{◌≡◌};
-ghost use Rattle.tbl_plain.specs.Answers.{registered, shared, figures_told, addressed, done};
+ghost use Rattle.table_core.specs.Answers.{registered, shared, figures_told, addressed, done};
 ghost use Rattle.tbl_load.specs.Bags.{HasBag};
 ghost use Rattle.tbl_load.specs.Core.{MayCall, Does};
 ghost use Rattle.tbl_words.specs.Entries.{call_of};

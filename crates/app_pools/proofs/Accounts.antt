@@ -12,8 +12,8 @@ use Rattle.es_pool.specs.declared.blocks.CutBlock.{CutBlock}
 use Rattle.es_pool.proofs.Law.{draws_alike, returns_alike}
 use Rattle.es_pool.proofs.Totals.{block, sum-change}
 use Rattle.es_pool.proofs.Keeps.{inside_from_out}
-use Rattle.pool_words.specs.Grants.{Grant, PoolGrants, with_grant, out_of, pool_account}
-use Rattle.pool_words.proofs.Accounts as words
+use Rattle.fsw_base.specs.Grants.{Grant, PoolGrants, with_grant, out_of, pool_account}
+use Rattle.fsw_base.proofs.GrantAccounts as words
 use Rattle.app_pools.specs.Inside.{grant_of, grants_of, account_in}
 use Rattle.app_pools.specs.declared.pool.Lent.{Lent}
 

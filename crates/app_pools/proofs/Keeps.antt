@@ -15,8 +15,8 @@ use Rattle.es_pool.specs.Pool.{PoolState, DrawsFor, IsWhole, fits, out_among, is
 use Rattle.es_pool.specs.Account.{IsAccountOf}
 use Rattle.es_pool.proofs.Law.{room_alike, account_new}
 use Rattle.es_pool.proofs.Keeps.{out_few}
-use Rattle.pool_words.specs.Grants.{Grant, PoolGrants, new_pool, was_given, is_among, get_answer, after_get, after_get_if, with_grant, pool_account, put_answer, after_put, without}
-use Rattle.pool_words.proofs.Accounts.{none_out}
+use Rattle.fsw_base.specs.Grants.{Grant, PoolGrants, new_pool, was_given, is_among, get_answer, after_get, after_get_if, with_grant, pool_account, put_answer, after_put, without}
+use Rattle.fsw_base.proofs.GrantAccounts.{none_out}
 use Rattle.app_pools.specs.Inside.{account_in, grant_of, grants_of, IsLent, HasNumber, AreKept}
 use Rattle.app_pools.specs.declared.pool.Lent.{Lent}
 use Rattle.app_pools.proofs.Accounts.{pool_is, account_is, moved_drawn, moved_back, moved_refused, Drawn, drawn, out_other, class_other, one_fewer}

@@ -9,9 +9,9 @@ use Rattle.std.proofs.lemmas.List.Elements.{All-replicate, All-get_or, All-set, 
 use Rattle.std.proofs.lemmas.List.Sums.{sum_by_more}
 use Rattle.fsw_base.specs.declared.statuses.EsStatus.{EsStatus}
 use Rattle.fsw_base.specs.declared.statuses.EsStatus.TheVariants.{ErrMemBlockSize, NoPool}
-use Rattle.pool_words.specs.Grants.{PoolGrants, Pools, new_pool, is_pool, pool_in, has_numbers, with_pool, refuses_pool, create_answer, after_create, answer_in, after_get, after_put, after_end, held_by, all_after_end, IsNumbered}
+use Rattle.fsw_base.specs.Grants.{PoolGrants, Pools, new_pool, is_pool, pool_in, has_numbers, with_pool, refuses_pool, create_answer, after_create, answer_in, after_get, after_put, after_end, held_by, all_after_end, IsNumbered}
 use Rattle.app_pools.specs.Inside.{pools_in, AreOpened, IsPlace}
-use Rattle.pool_words.proofs.GrantNumbers.{numbered_new, numbered_get, numbered_put, numbered_end}
+use Rattle.fsw_base.proofs.GrantNumbers.{numbered_new, numbered_get, numbered_put, numbered_end}
 
 -- at opening
 pub opened_new : (most : ℕ) (sizes : List ℕ) (places : List PoolGrants) → places ≡ replicate 8 (new_pool sizes most) → AreOpened most sizes 0 places

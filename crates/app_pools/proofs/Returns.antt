@@ -12,7 +12,7 @@ use Rattle.es_pool.specs.Account.{IsAccountOf}
 use Rattle.es_pool.specs.Pool.{PoolState, out_among, is_out, class_at, given_back, most_cut}
 use Rattle.es_pool.proofs.Totals.{block}
 use Rattle.es_pool.proofs.Keeps.{true_from_same}
-use Rattle.pool_words.specs.Grants.{Grant, PoolGrants, after_end, held_by, out_of, blocks_out, pool_account}
+use Rattle.fsw_base.specs.Grants.{Grant, PoolGrants, after_end, held_by, out_of, blocks_out, pool_account}
 use Rattle.app_pools.specs.Inside.{account_in, grant_of, grants_of, left_after, IsLent, AreLent, AreGivenBack, AreKept}
 use Rattle.app_pools.specs.declared.pool.Lent.{Lent}
 use Rattle.app_pools.proofs.Accounts.{pool_is, account_is, moved_back, out_other, class_other, one_fewer}

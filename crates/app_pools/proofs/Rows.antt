@@ -13,8 +13,8 @@ use Rattle.std.proofs.lemmas.Cmp.{ranked}
 use Rattle.std.proofs.lemmas.List.Sorted.{IsNonDecreasingBy-from_default}
 use Rattle.fsw_base.proofs.Lists.{list_any-map, filter-map, find-map, count_by-map}
 use Rattle.es_pool.proofs.Keeps.{true_from_same, false_from_other}
-use Rattle.pool_words.proofs.Tests.{filter_all}
-use Rattle.pool_words.specs.Grants.{Grant, is_among, class_under, without, of_others, held_by, out_of}
+use Rattle.fsw_base.proofs.GrantTests.{filter_all}
+use Rattle.fsw_base.specs.Grants.{Grant, is_among, class_under, without, of_others, held_by, out_of}
 use Rattle.app_pools.specs.Inside.{grant_of, AreRising, HasNumber}
 use Rattle.app_pools.specs.declared.pool.Lent.{Lent}
 

@@ -4,7 +4,7 @@ use Rattle.std.specs.List.{range_with_len, AllPairs}
 use Rattle.fsw_base.specs.PoolAccounts.{Account}
 use Rattle.es_pool.specs.Account.{IsAccountOf}
 use Rattle.es_pool.specs.Pool.{PoolState, made_in, out_among, is_out, class_at, most_cut}
-use Rattle.pool_words.specs.Grants.{Grant, PoolGrants, Pools, new_pool, is_pool, pool_account, blocks_out, held_by, IsNumbered}
+use Rattle.fsw_base.specs.Grants.{Grant, PoolGrants, Pools, new_pool, is_pool, pool_account, blocks_out, held_by, IsNumbered}
 use Rattle.app_pools.specs.declared.pool.Lent.{Lent}
 
 -- a grant, without its block

@@ -2,8 +2,8 @@
 //! out grants of its blocks, numbered 1, 2, 3 and so on, takes them back, and takes back all grants
 //! of an application at its end.
 //!
-//! Each call answers and leaves exactly what the definitions of `pool_words` say. A call takes at
-//! most 8 steps, an end 8 for each grant that it takes back.
+//! Each call answers and leaves exactly what the definitions of pools in `fsw_base` say. A call
+//! takes at most 8 steps, an end 8 for each grant that it takes back.
 //!
 //! ```
 //! /// Takes a grant of the first pool and gives it back.
@@ -22,7 +22,7 @@
 //!
 //! # Proved
 //!
-//! - `create`, `get`, `put`, `stats` and `end` are those of `pool_words`. No grant number is used
+//! - `create`, `get`, `put`, `stats` and `end` are those of `fsw_base`. No grant number is used
 //!   again. A grant that was never given, or came back already, is refused and counted.
 //! - `app_pool` shows the pool itself: as many of its blocks of each size are out as grants of that
 //!   size (`pool_account`). `recall_numbered`: the grants out are in order of number, each was

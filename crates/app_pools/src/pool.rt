@@ -4,7 +4,7 @@ ghost use Rattle.std.specs.Result.{result_err};
 ghost use Rattle.fsw_base.specs.PoolAccounts.{counted, overhead};
 ghost use Rattle.es_pool.specs.Account.{IsAccountOf};
 ghost use Rattle.es_pool.specs.Pool.{class_at, is_out, given_back};
-ghost use Rattle.pool_words.specs.Grants.{new_pool, get_answer, after_get, put_answer, after_put, after_end, figures_of, held_by, class_under, pool_account};
+ghost use Rattle.fsw_base.specs.Grants.{new_pool, get_answer, after_get, put_answer, after_put, after_end, figures_of, held_by, class_under, pool_account};
 ghost use Rattle.app_pools.specs.Inside.{grant_of, account_in, AreLent, AreRising, HasNumber, AreGivenBack};
 
 use es_pool::{BlockNo, Pool, blocks_lie_apart};
@@ -52,7 +52,7 @@ pub(crate) struct AppPool {
 
 impl Model for AppPool {
     ghost use Rattle.std.specs.Prelude.{vec_capacity};
-    ghost use Rattle.pool_words.specs.Grants.{PoolGrants};
+    ghost use Rattle.fsw_base.specs.Grants.{PoolGrants};
 
     ghost Value = { PoolGrants };
 

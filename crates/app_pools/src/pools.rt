@@ -3,7 +3,7 @@ ghost use Rattle.std.specs.Prelude.{◌≡◌, ◌+◌, ◌-◌, ◌*◌, ◌%�
 ghost use Rattle.std.specs.Result.{result_err};
 ghost use Rattle.es_pool.specs.Account.{IsAccountOf};
 ghost use Rattle.fsw_base.specs.PoolAccounts.{overhead};
-ghost use Rattle.pool_words.specs.Grants.{new_pool, is_pool, pool_in, with_pool, has_numbers, refuses_pool, create_answer, after_create, answer_in, get_answer, after_get, put_answer, after_put, figures_of, after_end, held_by, all_after_end, held_in, class_under, pool_account, IsNumbered};
+ghost use Rattle.fsw_base.specs.Grants.{new_pool, is_pool, pool_in, with_pool, has_numbers, refuses_pool, create_answer, after_create, answer_in, get_answer, after_get, put_answer, after_put, figures_of, after_end, held_by, all_after_end, held_in, class_under, pool_account, IsNumbered};
 ghost use Rattle.app_pools.specs.Inside.{IsPlace};
 
 use crate::pool::{AppPool, GrantBlock};
@@ -33,7 +33,7 @@ pub struct AppPools {
 }
 
 impl Model for AppPools {
-    ghost use Rattle.pool_words.specs.Grants.{Pools};
+    ghost use Rattle.fsw_base.specs.Grants.{Pools};
 
     ghost Value = { Pools };
 

@@ -14,7 +14,7 @@ use Rattle.app_run.specs.Runners.{Equipped, Services}
 use Rattle.app_run.specs.Turns.{Moved, TablesMoved}
 use Rattle.tbl_words.specs.declared.calls.TblAnswer.{TblAnswer}
 use Rattle.tbl_words.specs.declared.history.Call.{Call as TableCall}
-use Rattle.tbl_blocks.specs.Held.{HeldViews}
+use Rattle.table_blocks.specs.Held.{HeldViews}
 use Rattle.tbl_load.specs.Bags.{HasBag as HasTableBag, KeepsOtherBags as KeepsOtherTables}
 use Rattle.tbl_load.specs.Core.{Core as TableCore, Does as TablesDo}
 

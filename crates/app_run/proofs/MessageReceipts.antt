@@ -15,7 +15,7 @@ use Rattle.bus_words.specs.Alone.{gets_from}
 use Rattle.bus_words.specs.Bus.{Item, owns, pipe_at}
 use Rattle.bus_words.specs.Receipts.{message_receipt, receipt_in}
 use Rattle.bus_words.proofs.Finds.{same-self}
-use Rattle.bus_store.specs.Words.{loan_of}
+use Rattle.bus_messages.specs.Words.{loan_of}
 use Rattle.sb_calls.specs.Bags.{HasBag, loans_of}
 use Rattle.sb_calls.specs.Core.{Core, Does, IsLegalCore, apps_of, state_of}
 use Rattle.sb_calls.specs.Views.{bytes_seen}

@@ -14,7 +14,7 @@ use Rattle.journal_store.specs.Budgets.{AreBudgets, allowance_of}
 use Rattle.bus_words.specs.Log.{left_of}
 use Rattle.sb_calls.specs.Core.{Core, apps_of, state_of}
 use Rattle.tbl_words.specs.Tables.{has_ended, opening as no_tables}
-use Rattle.tbl_blocks.specs.Held.{HeldViews}
+use Rattle.table_blocks.specs.Held.{HeldViews}
 use Rattle.tbl_load.specs.Core.{Core as TableCore, apps_of as table_apps_of}
 use Rattle.script_lines.specs.declared.line.Line.{Line}
 use Rattle.script_lines.specs.declared.line.Line.TheVariants.{Create, Find, Send, SendRaw, Pend, Allocate, TransmitBuffer, TableRegister, TableShare, Stage, Load}

@@ -18,7 +18,7 @@ use Rattle.tbl_words.specs.declared.history.Call.{Call as TableCall}
 use Rattle.tbl_words.specs.declared.history.Entry.{Entry as TableEntry}
 use Rattle.tbl_words.specs.Machine.{step as table_step}
 use Rattle.tbl_words.specs.Tables.{State as Tables}
-use Rattle.tbl_blocks.specs.Held.{HeldViews}
+use Rattle.table_blocks.specs.Held.{HeldViews}
 use Rattle.tbl_load.specs.Core.{Core as TableCore, Does as TablesDo, IsLegalCore as IsLegalTableCore, apps_of as table_apps_of, state_of as tables_of}
 use Rattle.tbl_load.specs.Notes.{note_due}
 use Rattle.tbl_load.proofs.OthersBags.{legal-last as table_legal-last}

@@ -32,8 +32,8 @@ use Rattle.tbl_words.specs.Entries.{call_bytes as table_call_bytes}
 use Rattle.tbl_words.specs.Log.{left_of as tables_left_of}
 use Rattle.tbl_words.specs.Machine.{accept, cause, outcome, step, with_new_handle, with_new_table, with_range, with_staged, with_table_of, with_update, with_validated, with_hold}
 use Rattle.tbl_words.specs.Tables.{State as Tables, Staged, Table, has_ended, table_named, table_of, with_handle, with_table}
-use Rattle.tbl_plain.specs.Core.{is_range, is_within}
-use Rattle.tbl_blocks.specs.Held.{HeldViews}
+use Rattle.table_core.specs.Core.{is_range, is_within}
+use Rattle.table_blocks.specs.Held.{HeldViews}
 use Rattle.tbl_load.specs.Core.{Core as TableCore, Does as TablesDo, MayCall as MayCallCore, apps_of as table_apps_of, state_of as tables_of}
 use Rattle.tbl_load.proofs.Journals.{left_from-push, length-left_of as length-tables_left_of}
 use Rattle.script_words.specs.declared.content.Content.{Content}

@@ -62,7 +62,7 @@ use Rattle.tbl_words.specs.declared.history.Call.{Call as TableCall}
 use Rattle.tbl_words.specs.declared.history.Entry.{Entry as TableEntry}
 use Rattle.tbl_words.specs.Log.{left_of as tables_left_of}
 use Rattle.tbl_words.specs.Tables.{State as Tables}
-use Rattle.tbl_blocks.specs.Held.{HeldViews}
+use Rattle.table_blocks.specs.Held.{HeldViews}
 use Rattle.tbl_load.specs.Core.{Core as TableCore, state_of as tables_of}
 use Rattle.app_run.proofs.Standings.{SettlesLine, is_pending, settles-line, settles-look}
 

@@ -5,7 +5,7 @@ use Rattle.buf_desc.specs.Held.{Holding}
 use Rattle.fsw_base.specs.declared.config.Budget.{Budget}
 use Rattle.fsw_base.specs.Limits.{Limits}
 use Rattle.sb_calls.specs.Core.{Core}
-use Rattle.tbl_blocks.specs.Held.{HeldViews}
+use Rattle.table_blocks.specs.Held.{HeldViews}
 use Rattle.tbl_load.specs.Core.{Core as TableCore}
 use Rattle.script_settings.specs.Accounts.{budget_of}
 use Rattle.app_script.specs.Script.{ScriptText}

@@ -8,7 +8,7 @@ use Rattle.bus_words.specs.Bus.{Standing, Active, Waiting, Ended}
 use Rattle.app_script.specs.Script.{ScriptText, app_at}
 use Rattle.script_lines.specs.declared.line.Line.{Line}
 use Rattle.sb_calls.specs.Core.{Core}
-use Rattle.tbl_blocks.specs.Held.{HeldViews}
+use Rattle.table_blocks.specs.Held.{HeldViews}
 use Rattle.tbl_load.specs.Core.{Core as TableCore}
 use Rattle.script_runs.specs.Histories.{Histories}
 use Rattle.script_runs.specs.TableTrace.{first_handles}

@@ -1,6 +1,6 @@
 //! The answers of the calls, as entries of the journal have them.
 ghost use Rattle.std.specs.Prelude.{◌≡◌};
-ghost use Rattle.sb_plain.specs.Answers.{numbered, done, named, got, pool_told, grant_back, figures_told, event_told};
+ghost use Rattle.bus_core.specs.Answers.{numbered, done, named, got, pool_told, grant_back, figures_told, event_told};
 ghost use Rattle.sb_calls.specs.Answers.{sent, waited, pended};
 
 use bus_words::{BusAnswer, PipeText};

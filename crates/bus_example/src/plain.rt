@@ -1,13 +1,13 @@
 //! The bus without a journal: for as long as a program lives, from one thread.
 ghost use Rattle.std.specs.Prelude.{◌≡◌, ◌<◌, []};
 ghost use Rattle.bus_words.specs.Acts.{opening_whole};
-ghost use Rattle.sb_plain.specs.Bags.{HasBag, KeepsBags};
+ghost use Rattle.bus_core.specs.Bags.{HasBag, KeepsBags};
 
 use crate::message::{ID, message};
 use buf_desc::Held;
+use bus_core::PlainBus;
 use bus_words::BusCall;
 use fsw_base::{AppNo, Config, Scope};
-use sb_plain::PlainBus;
 use std::alloc::{AllocError, Global};
 use std::marker::Brand;
 use step_count::{Blank, Ledger, Steps};

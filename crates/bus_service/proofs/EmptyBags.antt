@@ -14,8 +14,8 @@ use Rattle.bus_words.specs.declared.history.Entry.{Entry}
 use Rattle.bus_words.specs.Bus.{Pipe, Buffer, Subscription, State, Sending, opening, owns, unsent_of, with_pipe, with_bits, after_receive, offered, deliver, route}
 use Rattle.bus_words.specs.Machine.{state_from, step}
 use Rattle.bus_words.proofs.Steps.{after_step}
-use Rattle.bus_store.specs.Bag.{Shape, shape_of, last_view}
-use Rattle.bus_store.specs.Words.{desc_of, size_for}
+use Rattle.bus_messages.specs.Bag.{Shape, shape_of, last_view}
+use Rattle.bus_messages.specs.Words.{desc_of, size_for}
 use Rattle.sb_calls.specs.Bags.{HasBag, loans_of, descs_of}
 use Rattle.sb_calls.specs.Core.{Core, state_of, apps_of}
 use Rattle.bus_words.specs.Runs.{own_entries}

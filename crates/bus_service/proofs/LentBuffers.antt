@@ -4,8 +4,8 @@ use Rattle.std.specs.Option.{option_map}
 use Rattle.lend_block.specs.Loan.{LentBytes}
 use Rattle.buf_desc.specs.Held.{Holding, buffer_at}
 use Rattle.bus_words.specs.Bus.{Buffer, has_unsent, unsent_at}
-use Rattle.bus_store.specs.Bag.{Shape, shape_of}
-use Rattle.bus_store.specs.Words.{desc_of, size_for}
+use Rattle.bus_messages.specs.Bag.{Shape, shape_of}
+use Rattle.bus_messages.specs.Words.{desc_of, size_for}
 use Rattle.sb_calls.specs.Bags.{HasBag, descs_of}
 use Rattle.sb_calls.specs.Core.{Core, state_of}
 

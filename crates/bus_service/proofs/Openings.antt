@@ -12,7 +12,7 @@ use Rattle.bus_words.specs.Entries.{call_bytes}
 use Rattle.bus_words.specs.Log.{left_of}
 use Rattle.bus_words.specs.Machine.{may_call}
 use Rattle.bus_words.specs.Runs.{own_entries}
-use Rattle.sb_plain.specs.Core.{is_within}
+use Rattle.bus_core.specs.Core.{is_within}
 use Rattle.sb_calls.specs.Core.{Core, MayCall}
 use Rattle.bus_words.proofs.Journals.{length-left_of}
 use Rattle.bus_words.proofs.OwnEntries.{allowed_by_own}

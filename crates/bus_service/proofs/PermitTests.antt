@@ -7,7 +7,7 @@ use Rattle.bus_words.specs.declared.history.Call.TheVariants.{Create, Delete, Se
 use Rattle.bus_words.specs.Bus.{Standing, Active, Waiting, Ended, standing_of, waited_on}
 use Rattle.bus_words.specs.Entries.{call_bytes}
 use Rattle.bus_words.specs.Machine.{may_call}
-use Rattle.sb_plain.specs.Core.{is_within}
+use Rattle.bus_core.specs.Core.{is_within}
 use Rattle.sb_calls.specs.Core.{Core, MayCall, state_of}
 use Rattle.bus_service.specs.Inside.{lets}
 use Rattle.bus_service.specs.Ports.{is_look}

@@ -8,7 +8,7 @@ use Rattle.bus_words.specs.declared.calls.BusAnswer.TheVariants.{Sb}
 use Rattle.bus_words.specs.declared.history.Call.TheVariants.{Receive}
 use Rattle.bus_words.specs.Bus.{State, owns, is_empty}
 use Rattle.bus_words.specs.Machine.{Reads, by_bus, refused_if, decided_with, reads_after}
-use Rattle.sb_plain.specs.Answers.{got}
+use Rattle.bus_core.specs.Answers.{got}
 use Rattle.sb_calls.specs.Core.{Core, Does, state_of}
 
 unowned : (reads : Reads) (limits : Limits) (s : State) (app pipe : ℕ) (own empty : Bool) →

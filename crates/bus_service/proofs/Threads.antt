@@ -11,9 +11,9 @@ use Rattle.lend_block.specs.contracts.view.View as view
 use Rattle.lend_block.proofs.view.View.TheSendSync as views
 use Rattle.buf_desc.specs.contracts.front.RefMutSliceU8Memory.TheImpl as memory
 use Rattle.bus_words.proofs.journal.BusJournal.TheSendSync as journal
-use Rattle.sb_plain.proofs.plain.PlainBus.TheSendSync as plain
+use Rattle.bus_core.proofs.plain.PlainBus.TheSendSync as plain
 use Rattle.sb_calls.specs.contracts.noted.NotedJournal as noted
-use Rattle.sb_calls.specs.contracts.bus_core.BusCore as core
+use Rattle.sb_calls.specs.contracts.journalled.BusCore as core
 use Rattle.bus_service.specs.contracts.bus.Bus as bus
 use Rattle.bus_service.specs.contracts.ports.PortOf as port
 use Rattle.bus_service.specs.contracts.unsent.ViewMessageView.TheImpl as shown

@@ -15,7 +15,7 @@ use Rattle.bus_words.specs.Log.{left_of}
 use Rattle.sb_calls.specs.declared.results.Pended.{Pended}
 use Rattle.sb_calls.specs.declared.results.Pended.TheVariants.{Pending}
 use Rattle.sb_calls.specs.Answers.{waited}
-use Rattle.sb_plain.specs.Bags.{KeepsBuffers}
+use Rattle.bus_core.specs.Bags.{KeepsBuffers}
 use Rattle.sb_calls.specs.Core.{Core, Does, Looks, StandAlone}
 use Rattle.sb_calls.specs.Bags.{HasBag, CalledByOthers, AreOneLoan}
 use Rattle.core_port.specs.Ports as ports

@@ -6,7 +6,7 @@ use Rattle.bus_words.specs.declared.history.Call.{Call}
 use Rattle.bus_words.specs.declared.history.Call.TheVariants.{Figures, End}
 use Rattle.bus_words.specs.declared.history.Entry.{Entry}
 use Rattle.bus_words.specs.Log.{left_of}
-use Rattle.sb_plain.specs.News.{has_news}
+use Rattle.bus_core.specs.News.{has_news}
 use Rattle.sb_calls.specs.Bags.{CalledByOthers, AreOneLoan}
 use Rattle.sb_calls.specs.Core.{Core, MayCall, Does, IsLegalCore, IsNoted, StandAlone, state_of}
 use Rattle.core_port.specs.Words.{Words}

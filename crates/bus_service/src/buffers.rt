@@ -2,9 +2,9 @@
 ghost use Rattle.std.specs.Prelude.{◌≡◌, ◌+◌, ◌<◌, ◌≤◌, length, replicate, IfOk, OnErr};
 ghost use Rattle.buf_desc.specs.Held.{bytes_at};
 ghost use Rattle.bus_words.specs.declared.history.Call.TheVariants as made;
-ghost use Rattle.sb_plain.specs.Answers.{numbered, done};
+ghost use Rattle.bus_core.specs.Answers.{numbered, done};
 ghost use Rattle.sb_calls.specs.Answers.{sent};
-ghost use Rattle.sb_plain.specs.Bags.{KeepsBuffers};
+ghost use Rattle.bus_core.specs.Bags.{KeepsBuffers};
 ghost use Rattle.sb_calls.specs.Core.{MayCall};
 ghost use Rattle.bus_service.specs.Ports.{Answers, Adds, Takes};
 

@@ -2,7 +2,7 @@
 ghost use Rattle.std.specs.Prelude.{◌≡◌};
 ghost use Rattle.bus_words.specs.declared.history.Call.TheVariants as made;
 ghost use Rattle.bus_words.specs.declared.calls.BusAnswer.TheVariants.{Done};
-ghost use Rattle.sb_plain.specs.Answers.{event_told};
+ghost use Rattle.bus_core.specs.Answers.{event_told};
 ghost use Rattle.sb_calls.specs.Core.{MayCall};
 ghost use Rattle.bus_service.specs.Ports.{Answers};
 

@@ -2,7 +2,7 @@
 ghost use Rattle.std.specs.Prelude.{◌≡◌, Err, OnErr};
 ghost use Rattle.fsw_base.specs.declared.statuses.SbStatus.TheVariants.{BadArgument};
 ghost use Rattle.bus_words.specs.declared.history.Call.TheVariants as made;
-ghost use Rattle.sb_plain.specs.Answers.{got};
+ghost use Rattle.bus_core.specs.Answers.{got};
 ghost use Rattle.sb_calls.specs.Answers.{pended};
 ghost use Rattle.sb_calls.specs.Core.{MayCall, state_of};
 ghost use Rattle.bus_service.specs.Ports.{Answers, AnswersLook};

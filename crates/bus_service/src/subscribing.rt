@@ -1,7 +1,7 @@
 //! Subscriptions, by ports.
 ghost use Rattle.std.specs.Prelude.{◌≡◌};
 ghost use Rattle.bus_words.specs.declared.history.Call.TheVariants as made;
-ghost use Rattle.sb_plain.specs.Answers.{done};
+ghost use Rattle.bus_core.specs.Answers.{done};
 ghost use Rattle.sb_calls.specs.Core.{MayCall};
 ghost use Rattle.bus_service.specs.Ports.{Answers};
 

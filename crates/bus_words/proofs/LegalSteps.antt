@@ -9,7 +9,7 @@ use Rattle.fsw_base.specs.declared.statuses.SbStatus.TheVariants.{BadArgument, M
 use Rattle.fsw_base.specs.Limits.{Limits}
 use Rattle.fsw_base.specs.EventDesk.{Desk}
 use Rattle.housekeeping.specs.Statistics.{Statistics}
-use Rattle.pool_words.specs.Grants.{Pools, pool_in, with_pool, after_create, after_get, after_put}
+use Rattle.fsw_base.specs.Grants.{Pools, pool_in, with_pool, after_create, after_get, after_put}
 use Rattle.bus_words.specs.declared.history.Call.{Call}
 use Rattle.bus_words.specs.declared.history.Call.TheVariants.{Create, Delete, SetOpts, GetOpts, Find, PipeName, Subscribe, Unsubscribe, Transmit, Receive, Pend, Look, Allocate, TransmitBuffer, Release, PoolCreate, PoolGet, PoolPut, PoolFigures, Register, SendEvent, ResetFilter, LogMode, ClearLog, Housekeeping, Figures, End}
 use Rattle.bus_words.specs.declared.history.Entry.{Entry}

@@ -3,8 +3,8 @@ use Rattle.std.proofs.Common.{ℕ, ◌+◌, ◌≤◌, List, [], ◌∷◌, ◌+
 use Rattle.std.proofs.lemmas.List.{length_push}
 use Rattle.std.proofs.lemmas.List.Elements.{All-nil}
 use Rattle.fsw_base.specs.Limits.{Limits}
-use Rattle.pool_words.specs.Grants.{PoolGrants, Pools, IsNumbered, all_after_end}
-use Rattle.pool_words.proofs.PoolCalls.{Follow, follows_same, follows_end}
+use Rattle.fsw_base.specs.Grants.{PoolGrants, Pools, IsNumbered, all_after_end}
+use Rattle.fsw_base.proofs.GrantCalls.{Follow, follows_same, follows_end}
 use Rattle.bus_words.specs.declared.history.Call.{Call}
 use Rattle.bus_words.specs.declared.history.Entry.{Entry}
 use Rattle.bus_words.specs.Bus.{State, ArePools, opening}

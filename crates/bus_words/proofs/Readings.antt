@@ -14,7 +14,7 @@ use Rattle.fsw_base.specs.PoolAccounts.{counted, has_room, has_room_if}
 use Rattle.fsw_base.specs.declared.statuses.EsStatus.{EsStatus}
 use Rattle.fsw_base.specs.declared.statuses.EsStatus.TheVariants.{ErrMemBlockSize, BufferNotInPool, PoolBlockInvalid, NoPool}
 use Rattle.ccsds_msg.specs.Message.{message_id}
-use Rattle.pool_words.specs.Grants.{Grant, PoolGrants, Pools, IsNumbered, new_pool, is_pool, pool_in, with_pool, with_grant, after_get, after_get_if, after_put, after_end, all_after_end, pool_account, is_among, was_given, without, refuses_pool, after_create}
+use Rattle.fsw_base.specs.Grants.{Grant, PoolGrants, Pools, IsNumbered, new_pool, is_pool, pool_in, with_pool, with_grant, after_get, after_get_if, after_put, after_end, all_after_end, pool_account, is_among, was_given, without, refuses_pool, after_create}
 use Rattle.bus_words.specs.declared.calls.BusAnswer.{BusAnswer}
 use Rattle.bus_words.specs.declared.calls.BusAnswer.TheVariants.{Number, Es, Done}
 use Rattle.bus_words.specs.declared.history.Call.{Call}

@@ -11,8 +11,8 @@ use Rattle.fsw_base.specs.Limits.{Limits}
 use Rattle.fsw_base.specs.PoolAccounts.{has_room}
 use Rattle.fsw_base.specs.EventDesk.{Desk}
 use Rattle.housekeeping.specs.Statistics.{Statistics}
-use Rattle.pool_words.specs.Grants.{Pools, pool_in, with_pool, after_create, after_get, after_put}
-use Rattle.pool_words.proofs.PoolCalls.{Follow, follows_create, follows_get, follows_put}
+use Rattle.fsw_base.specs.Grants.{Pools, pool_in, with_pool, after_create, after_get, after_put}
+use Rattle.fsw_base.proofs.GrantCalls.{Follow, follows_create, follows_get, follows_put}
 use Rattle.bus_words.specs.declared.history.Call.{Call}
 use Rattle.bus_words.specs.declared.history.Call.TheVariants.{Create, Delete, SetOpts, GetOpts, Find, PipeName, Subscribe, Unsubscribe, Transmit, Receive, Pend, Look, Allocate, TransmitBuffer, Release, PoolCreate, PoolGet, PoolPut, PoolFigures, Register, SendEvent, ResetFilter, LogMode, ClearLog, Housekeeping, Figures, End}
 use Rattle.bus_words.specs.declared.history.Entry.{Entry}

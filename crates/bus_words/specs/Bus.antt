@@ -6,7 +6,7 @@ use Rattle.std.specs.Option.{option_map_or}
 use Rattle.fsw_base.specs.Limits.{Limits}
 use Rattle.fsw_base.specs.EventDesk.{Desk, new_desk}
 use Rattle.housekeeping.specs.Statistics.{Statistics, no_statistics}
-use Rattle.pool_words.specs.Grants.{Pools, IsNumbered}
+use Rattle.fsw_base.specs.Grants.{Pools, IsNumbered}
 pub use Rattle.bus_words.specs.Pipes.{PipeOf, Subscription, Offer, is_queued, is_oldest, all_bits, oldest, pipe_at, is_live, owns, pipe_named, is_named, with_pipe, without_pipe, new_pipe, ignores_own, after_receive, with_bits}
 use Rattle.bus_words.specs.declared.miss.Miss.{Miss}
 use Rattle.bus_words.specs.declared.verdict.Verdict.{Verdict}

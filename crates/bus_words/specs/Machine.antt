@@ -12,7 +12,7 @@ use Rattle.fsw_base.specs.declared.statuses.EsStatus.TheVariants.{ErrMemBlockSiz
 use Rattle.fsw_base.specs.declared.statuses.EvsStatus.{EvsStatus}
 use Rattle.fsw_base.specs.EventDesk.{Desk, send_refusal, reset_refusal}
 use Rattle.fsw_base.specs.PoolAccounts.{has_room}
-use Rattle.pool_words.specs.Grants.{is_pool, pool_in, pool_account, with_pool, refuses_pool, after_create, was_given, is_among, after_get, after_put, figures_of, all_after_end}
+use Rattle.fsw_base.specs.Grants.{is_pool, pool_in, pool_account, with_pool, refuses_pool, after_create, was_given, is_among, after_get, after_put, figures_of, all_after_end}
 use Rattle.ccsds_msg.specs.Message.{fault, front_fault, message_id, is_valid_id}
 use Rattle.housekeeping.specs.Packet.{housekeeping_id}
 use Rattle.housekeeping.specs.Statistics.{Statistics}

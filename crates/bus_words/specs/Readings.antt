@@ -4,7 +4,7 @@ use Rattle.std.specs.Prelude.{ℕ, ◌-◌, ◌^◌, ◌==◌, min, Bool, true, 
 use Rattle.fsw_base.specs.Limits.{Limits}
 use Rattle.fsw_base.specs.PoolAccounts.{Account}
 use Rattle.fsw_base.specs.declared.statuses.EsStatus.TheVariants.{BufferNotInPool, PoolBlockInvalid}
-use Rattle.pool_words.specs.Grants.{pool_in, pool_account}
+use Rattle.fsw_base.specs.Grants.{pool_in, pool_account}
 use Rattle.bus_words.specs.declared.calls.BusAnswer.{BusAnswer}
 use Rattle.bus_words.specs.declared.calls.BusAnswer.TheVariants.{Number, Es, Evs}
 use Rattle.bus_words.specs.declared.history.Call.{Call}

@@ -12,7 +12,7 @@ use Rattle.bus_words.specs.Refusals.{Refusal}
 use Rattle.bus_words.specs.Machine.{Reads, sent_along, passed_along, sending_in, buffer_gone, stamped, accept_with, decided_with, cause, may_call}
 use Rattle.bus_words.specs.Acts.{Whole, act, reads_in}
 use Rattle.bus_words.proofs.Steps.{with_subscription, after_refusal}
-use Rattle.sb_plain.specs.Core.{Plain, MayAct, Acts, is_within, has_pipe_number, has_subscription_number, has_send_number}
+use Rattle.bus_core.specs.Core.{Plain, MayAct, Acts, is_within, has_pipe_number, has_subscription_number, has_send_number}
 use Rattle.cost_bus.specs.Calls.{MayMake, Made}
 
 -- One call, at the state. --

@@ -12,8 +12,8 @@ use Rattle.tbl_words.specs.declared.history.Call.{Call}
 use Rattle.tbl_words.specs.declared.history.Call.TheVariants.{Register, Load, GetAddress, ReleaseAddress}
 use Rattle.tbl_words.specs.Tables.{Table, Handle, State, opening, handle_at, table_at, table_of, table_named, with_handle, with_table}
 use Rattle.tbl_words.specs.Machine.{cause, accept, outcome, step, new_table, with_new_table, with_hold, with_value, with_update, with_range}
-use Rattle.tbl_blocks.specs.Held.{HeldViews}
-use Rattle.tbl_plain.specs.Core.{Plain, Holds, MayAct, Acts, HasNextVersion, has_handle_number, is_within}
+use Rattle.table_blocks.specs.Held.{HeldViews}
+use Rattle.table_core.specs.Core.{Plain, Holds, MayAct, Acts, HasNextVersion, has_handle_number, is_within}
 use Rattle.cost_bus.specs.TableCalls.{MayCallTables}
 
 -- One call, at the state. --

@@ -2,9 +2,9 @@
 use Rattle.std.proofs.Common.{ℕ, sym, ◌∙◌, subst}
 use Rattle.lend_block.specs.Loan.{LentBytes}
 use Rattle.buf_desc.specs.Held.{Holding}
-use Rattle.bus_store.specs.Bag.{HoldsViews}
-use Rattle.sb_plain.specs.Core.{Plain}
-use Rattle.sb_plain.specs.Bags.{HasBag}
+use Rattle.bus_messages.specs.Bag.{HoldsViews}
+use Rattle.bus_core.specs.Core.{Plain}
+use Rattle.bus_core.specs.Bags.{HasBag}
 use Rattle.cost_bus.specs.Written.{IsWrittenOver}
 
 pub has_written : (core : Plain) (app : ℕ) (old new : Holding LentBytes) → IsWrittenOver old new → HasBag core app old → HasBag core app new

@@ -2,7 +2,7 @@
 use Rattle.std.specs.Prelude.{◌≡◌, ℕ, ◌+◌, ◌^◌, ◌<◌, ◌≤◌, []}
 use Rattle.bus_words.specs.Acts.{opening_whole}
 use Rattle.bus_words.specs.Bus.{Active, standing_of}
-use Rattle.sb_plain.specs.Core.{Plain, apps_in}
+use Rattle.bus_core.specs.Core.{Plain, apps_in}
 
 -- the application is active, and numbers are left for so many pipes and subscriptions, and for so
 -- many sends and buffers

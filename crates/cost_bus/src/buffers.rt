@@ -1,16 +1,16 @@
 //! Buffers that are written where they are sent from.
 ghost use Rattle.std.specs.Prelude.{◌≡◌, ◌*◌, ◌+◌, ◌<◌, ◌≤◌, length};
 ghost use Rattle.buf_desc.specs.Held.{bytes_at};
-ghost use Rattle.sb_plain.specs.Bags.{HasBag};
+ghost use Rattle.bus_core.specs.Bags.{HasBag};
 ghost use Rattle.cost_bus.specs.Calls.{MayMake, Made, IsUnused};
 ghost use Rattle.cost_bus.specs.Written.{IsWrittenOver};
 
 use crate::figures::Figures;
 use crate::pipes::{IDS, id_of, open, place_of};
 use buf_desc::{Held, recall_written};
+use bus_core::PlainBus;
 use ccsds_msg::write_header;
 use fsw_base::{AppNo, Config};
-use sb_plain::PlainBus;
 use std::alloc::{AllocError, Global};
 use std::marker::Brand;
 use step_count::{Blank, Ledger, Steps};

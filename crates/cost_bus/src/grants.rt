@@ -4,8 +4,8 @@ ghost use Rattle.cost_bus.specs.Calls.{MayMake, Made, IsUnused};
 
 use crate::buffers::BUFFER_SIZE;
 use crate::figures::Figures;
+use bus_core::PlainBus;
 use fsw_base::{AppNo, Config};
-use sb_plain::PlainBus;
 use std::alloc::{AllocError, Global};
 use std::marker::Brand;
 use step_count::{Blank, Ledger, Steps};

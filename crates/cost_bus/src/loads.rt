@@ -2,7 +2,7 @@
 ghost use Rattle.std.specs.Prelude.{◌≡◌, ℕ, ◌*◌, ◌+◌, ◌<◌, ◌≤◌, [], length};
 ghost use Rattle.fsw_base.specs.Limits.{limits_of};
 ghost use Rattle.tbl_words.specs.Tables.{opening};
-ghost use Rattle.tbl_plain.specs.Core.{Holds};
+ghost use Rattle.table_core.specs.Core.{Holds};
 ghost use Rattle.cost_bus.specs.TableCalls.{MayCallTables};
 
 use crate::figures::Figures;
@@ -10,8 +10,8 @@ use fsw_base::{AppNo, Config};
 use std::alloc::{AllocError, Global};
 use std::marker::Brand;
 use step_count::{Blank, Ledger, Steps};
-use tbl_blocks::HeldTables;
-use tbl_plain::PlainTables;
+use table_blocks::HeldTables;
+use table_core::PlainTables;
 use tbl_rules::RuleList;
 
 // The handle of the table, which is the first one given.

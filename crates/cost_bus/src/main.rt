@@ -29,11 +29,11 @@ mod sends;
 mod turns;
 
 use buffers::{next_number, time_buffers};
+use bus_core::PlainBus;
 use figures::Figures;
 use fsw_base::{AppNo, Config};
 use grants::time_grants;
 use loads::time_loads;
-use sb_plain::PlainBus;
 use sends::{Sends, sends_of};
 use std::alloc::{AllocError, Global};
 use std::marker::Brand;

@@ -1,10 +1,10 @@
 //! The pipes and their subscriptions.
 ghost use Rattle.std.specs.Prelude.{◌+◌, ◌*◌, ◌<◌, ◌≤◌};
-ghost use Rattle.sb_plain.specs.Bags.{KeepsBags};
+ghost use Rattle.bus_core.specs.Bags.{KeepsBags};
 ghost use Rattle.cost_bus.specs.Calls.{MayMake, Made};
 
+use bus_core::PlainBus;
 use fsw_base::{AppNo, Scope};
-use sb_plain::PlainBus;
 use step_count::{Ledger, Steps};
 
 /// The message ids.

@@ -1,13 +1,13 @@
 //! The turns.
 ghost use Rattle.std.specs.Prelude.{◌≡◌, ◌*◌, ◌+◌, ◌<◌, ◌≤◌, length};
-ghost use Rattle.sb_plain.specs.Bags.{HasBag};
+ghost use Rattle.bus_core.specs.Bags.{HasBag};
 ghost use Rattle.cost_bus.specs.Calls.{MayMake, Made};
 
 use crate::pipes::{IDS, id_of, open, place_of};
 use buf_desc::Held;
+use bus_core::PlainBus;
 use ccsds_msg::write_header;
 use fsw_base::AppNo;
-use sb_plain::PlainBus;
 use step_count::{Ledger, Steps};
 
 /// What the bus carries.

@@ -12,3 +12,4 @@ pub mod PoolAccounts
 pub mod ScriptFaults
 pub mod Starts
 pub mod Statuses
+pub mod Grants

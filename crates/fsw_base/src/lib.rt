@@ -24,6 +24,9 @@
 //!   calls on, with the condition that none has failed before.
 //! - Each printed name is its definition's. `extend_reserved` adds bytes to a list that has room;
 //!   the list stays in place with its capacity. `sum_of` is the sum of at most 16,000,000 bytes.
+//! - Memory pools of applications, as definitions (`specs/Grants.antt`): the blocks out are counted
+//!   from the grants that are out, and a call moves a pool's account as accounts move
+//!   (`recall_blocks_counted`). Grants stand in order of number (`recall_grants_numbered`).
 //!
 //! Trusted: what standard input holds and standard output receives.
 //!
@@ -36,6 +39,7 @@ mod blocks;
 mod clean;
 mod config;
 mod events;
+mod grants;
 mod guards;
 mod memory;
 mod outside;
@@ -52,6 +56,7 @@ pub use blocks::{BlockSizes, MAX_BLOCK_SIZE, MAX_BLOCK_SIZES};
 pub use clean::{CleanSink, CleanSource};
 pub use config::{Budget, BusStats, Config, PoolStats, Scope};
 pub use events::{EventKind, FilterList, MAX_FILTERS};
+pub use grants::{recall_blocks_counted, recall_grants_numbered};
 pub use guards::{SinkGuard, SourceGuard};
 pub use memory::{MemSink, MemSource};
 pub use outside::{Gate, OpenGate, ReadAnswer, Sink, Source, WriteAnswer};

@@ -16,7 +16,7 @@ use Rattle.std_heap.specs.contracts.GlobalAllocator.TheImpl.{ghosts, dict}
 use Rattle.std_heap.proofs.Global.TheLaws as heap
 use Rattle.fsw_core.specs.contracts.Core as Core
 use Rattle.fsw_core.proofs.Core.TheLaws as core
-use Rattle.heap_parts.specs.contracts.Parts as Parts
+use Rattle.fsw_c.specs.contracts.parts.Parts as Parts
 use Rattle.fsw_c.specs.contracts.held.HeldCore as HeldCore
 
 abbrev pub E : Bx

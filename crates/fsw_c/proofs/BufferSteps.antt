@@ -8,13 +8,13 @@ use Rattle.fsw_base.specs.declared.statuses.SbStatus.TheVariants as sb
 use Rattle.housekeeping.specs.declared.names.CounterName.TheVariants.{Send}
 use Rattle.bus_words.specs.declared.calls.BusAnswer.TheVariants.{Number}
 use Rattle.bus_words.specs.declared.history.Call.TheVariants.{Allocate, TransmitBuffer, Release}
-use Rattle.sb_plain.specs.Core.{Acts, with_tick, has_send_number}
-use Rattle.sb_plain.specs.Answers.{numbered, sent, done}
-use Rattle.sb_plain.specs.declared.sending.Sent.{Sent}
-use Rattle.sb_box.specs.declared.refusal.Refusal.{Refusal}
-use Rattle.sb_box.specs.Asked.{unasked_allocate, unasked_transmit, unasked_release}
-use Rattle.sb_box.specs.Box.{KeepsOtherBags, KeepsOwnViews, bag_of}
-use Rattle.sb_box.specs.Lent.{Lent, no_buffer, written, StaysOut, IsGivenOut}
+use Rattle.bus_core.specs.Core.{Acts, with_tick, has_send_number}
+use Rattle.bus_core.specs.Answers.{numbered, sent, done}
+use Rattle.bus_core.specs.declared.sending.Sent.{Sent}
+use Rattle.checked_bus.specs.declared.refusal.Refusal.{Refusal}
+use Rattle.checked_bus.specs.Asked.{unasked_allocate, unasked_transmit, unasked_release}
+use Rattle.checked_bus.specs.Box.{KeepsOtherBags, KeepsOwnViews, bag_of}
+use Rattle.checked_bus.specs.Lent.{Lent, no_buffer, written, StaysOut, IsGivenOut}
 use Rattle.fsw_core.specs.declared.Core.{Core}
 use Rattle.fsw_c.specs.BusCodes.{sb_code, call_code}
 use Rattle.fsw_c.specs.BusAnswers.{BusCall}

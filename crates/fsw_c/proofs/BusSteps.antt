@@ -13,16 +13,16 @@ use Rattle.bus_words.specs.declared.history.Call.{Call}
 use Rattle.bus_words.specs.declared.history.Call.TheVariants.{Look, PoolGet}
 use Rattle.bus_words.specs.Bus.{standing_of, waited_on}
 use Rattle.bus_words.specs.Machine.{refused_if}
-use Rattle.pool_words.specs.Grants.{has_numbers}
-use Rattle.sb_plain.specs.Core.{Acts, with_tick, has_send_number}
-use Rattle.sb_plain.specs.Answers.{numbered, named, done, sent, waited, pended, pool_told, grant_back, event_told, figures_told}
-use Rattle.sb_plain.specs.Bags.{KeepsLoans}
-use Rattle.sb_plain.specs.declared.receiving.Pended.{Pended}
-use Rattle.sb_box.specs.declared.refusal.Refusal.{Refusal}
-use Rattle.sb_box.specs.declared.waits.LookAnswer.{LookAnswer}
-use Rattle.sb_box.specs.Answers.{received}
-use Rattle.sb_box.specs.Asked.{unasked_look}
-use Rattle.sb_box.specs.Box.{Boxed, KeepsOtherBags, KeepsOwnBuffers}
+use Rattle.fsw_base.specs.Grants.{has_numbers}
+use Rattle.bus_core.specs.Core.{Acts, with_tick, has_send_number}
+use Rattle.bus_core.specs.Answers.{numbered, named, done, sent, waited, pended, pool_told, grant_back, event_told, figures_told}
+use Rattle.bus_core.specs.Bags.{KeepsLoans}
+use Rattle.bus_core.specs.declared.receiving.Pended.{Pended}
+use Rattle.checked_bus.specs.declared.refusal.Refusal.{Refusal}
+use Rattle.checked_bus.specs.declared.waits.LookAnswer.{LookAnswer}
+use Rattle.checked_bus.specs.Answers.{received}
+use Rattle.checked_bus.specs.Asked.{unasked_look}
+use Rattle.checked_bus.specs.Box.{Boxed, KeepsOtherBags, KeepsOwnBuffers}
 use Rattle.fsw_core.specs.declared.Core.{Core}
 use Rattle.fsw_c.specs.BusCodes.{sb_code, es_code, evs_code, bus_code, unasked_code, answer_code, call_code, plain_code, pend_code, look_code}
 use Rattle.fsw_c.specs.BusAnswers.{BusCall, Unasked, Asked, Spent, SpentGrants, takes_send_number, KeepsBagsBut, pipe_waited_on}

@@ -6,13 +6,13 @@ use Rattle.bus_words.specs.declared.calls.BusAnswer.TheVariants.{Done}
 use Rattle.bus_words.specs.declared.history.Call.TheVariants.{End}
 use Rattle.tbl_words.specs.declared.calls.TblAnswer.TheVariants.{Done as TableDone}
 use Rattle.tbl_words.specs.declared.history.Call.TheVariants.{End as TableEnd}
-use Rattle.tbl_plain.specs.Core.{Acts as TableActs}
-use Rattle.tbl_box.specs.Asked.{unasked as unasked_tables}
-use Rattle.tbl_box.specs.Box.{KeepsOtherBags as KeepsOtherTables, bag_of as table_bag_of}
-use Rattle.sb_plain.specs.Core.{Acts}
-use Rattle.sb_box.specs.declared.refusal.Refusal.{Refusal}
-use Rattle.sb_box.specs.Asked.{unasked_end}
-use Rattle.sb_box.specs.Box.{KeepsOtherBags, bag_of}
+use Rattle.table_core.specs.Core.{Acts as TableActs}
+use Rattle.checked_tables.specs.Asked.{unasked as unasked_tables}
+use Rattle.checked_tables.specs.Box.{KeepsOtherBags as KeepsOtherTables, bag_of as table_bag_of}
+use Rattle.bus_core.specs.Core.{Acts}
+use Rattle.checked_bus.specs.declared.refusal.Refusal.{Refusal}
+use Rattle.checked_bus.specs.Asked.{unasked_end}
+use Rattle.checked_bus.specs.Box.{KeepsOtherBags, bag_of}
 use Rattle.fsw_core.specs.declared.Core.{Core}
 use Rattle.fsw_c.specs.BusCodes.{plain_code}
 use Rattle.fsw_c.specs.EndAnswers.{EndCall, Unasked, Asked}

@@ -7,6 +7,7 @@ mod LentWords
 mod ManyFilters
 mod Many
 mod Numbers
+mod PartsSteps
 mod Ranges
 mod Shown
 mod TableReads

@@ -10,10 +10,10 @@ use Rattle.tbl_words.specs.declared.statuses.TblStatus.{TblStatus}
 use Rattle.tbl_words.specs.declared.calls.Registered.{Registered}
 use Rattle.tbl_words.specs.declared.history.Call.TheVariants.{Register}
 use Rattle.tbl_words.specs.Machine.{may_call}
-use Rattle.tbl_plain.specs.Core.{Plain, has_handle_number}
-use Rattle.tbl_box.specs.declared.refusal.Refusal.{Refusal}
-use Rattle.tbl_box.specs.declared.refusal.Refusal.TheVariants.{NoApplication, TooLong, NotActive, NoNumbers}
-use Rattle.tbl_box.specs.Asked.{is_application, reason_if, unasked}
+use Rattle.table_core.specs.Core.{Plain, has_handle_number}
+use Rattle.checked_tables.specs.declared.refusal.Refusal.{Refusal}
+use Rattle.checked_tables.specs.declared.refusal.Refusal.TheVariants.{NoApplication, TooLong, NotActive, NoNumbers}
+use Rattle.checked_tables.specs.Asked.{is_application, reason_if, unasked}
 use Rattle.fsw_core.specs.declared.Core.{Core}
 use Rattle.fsw_c.specs.declared.registering.FswRule.{FswRule}
 use Rattle.fsw_c.specs.Rules.{rule_in, rules_in}

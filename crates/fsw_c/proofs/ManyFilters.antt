@@ -9,10 +9,10 @@ use Rattle.fsw_base.specs.Events.{are_filters}
 use Rattle.bus_words.specs.declared.calls.BusAnswer.TheVariants.{Done}
 use Rattle.bus_words.specs.declared.history.Call.TheVariants.{Register}
 use Rattle.bus_words.specs.Machine.{refused_if}
-use Rattle.sb_plain.specs.Core.{Plain, Acts}
-use Rattle.sb_box.specs.declared.refusal.Refusal.{Refusal}
-use Rattle.sb_box.specs.declared.refusal.Refusal.TheVariants.{NoApplication, TooLong, SameFilter}
-use Rattle.sb_box.specs.Asked.{is_application, unasked, unasked_register}
+use Rattle.bus_core.specs.Core.{Plain, Acts}
+use Rattle.checked_bus.specs.declared.refusal.Refusal.{Refusal}
+use Rattle.checked_bus.specs.declared.refusal.Refusal.TheVariants.{NoApplication, TooLong, SameFilter}
+use Rattle.checked_bus.specs.Asked.{is_application, unasked, unasked_register}
 use Rattle.fsw_core.specs.declared.Core.{Core}
 use Rattle.fsw_c.specs.declared.events.FswFilter.{FswFilter}
 use Rattle.fsw_c.specs.Args.{pairs_in}

@@ -6,8 +6,8 @@ use Rattle.tbl_words.specs.declared.statuses.TblStatus.TheVariants as tbl
 use Rattle.tbl_words.specs.declared.calls.Told.{Told}
 use Rattle.tbl_words.specs.declared.calls.Told.TheVariants.{Same, Updated, NeverLoaded}
 use Rattle.tbl_words.specs.declared.calls.TblAnswer.TheVariants.{Address}
-use Rattle.tbl_box.specs.declared.refusal.Refusal.{Refusal}
-use Rattle.tbl_box.specs.declared.refusal.Refusal.TheVariants as why
+use Rattle.checked_tables.specs.declared.refusal.Refusal.{Refusal}
+use Rattle.checked_tables.specs.declared.refusal.Refusal.TheVariants as why
 use Rattle.fsw_c.specs.TableCodes.{rule_number, tbl_code, table_code, unasked_table_code, gives_handle, gives_address, told_in}
 
 few-rules : (rule : ℕ) → rule_number rule ≤ 8

@@ -1,8 +1,8 @@
 -- What an application is shown, if it is served.
 use Rattle.std.proofs.Common.{◌≡◌, ℕ, Bool, true, false, cond, List, length, Option, Some, None, refl, ap, sym, ◌∙◌}
 use Rattle.std.specs.Option.{option_map, unwrap_or}
-use Rattle.sb_box.specs.Asked.{is_application}
-use Rattle.sb_box.specs.Box.{Boxed, last_message}
+use Rattle.checked_bus.specs.Asked.{is_application}
+use Rattle.checked_bus.specs.Box.{Boxed, last_message}
 use Rattle.fsw_c.specs.Shown.{shown_length, last_shown}
 
 pub shown : {X : Type 0} (served : Bool) (found is : Option X) → (served ≡ true → found ≡ is) → (served ≡ false → found ≡ None) → found ≡ cond {A = Option X} served is None

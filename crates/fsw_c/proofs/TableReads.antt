@@ -5,7 +5,7 @@ use Rattle.std.specs.Option.{option_map, option_map_or, option_and_then}
 use Rattle.std.specs.Result.{result_err}
 use Rattle.tbl_words.specs.declared.statuses.TblStatus.{TblStatus}
 use Rattle.tbl_words.specs.Tables.{Table, Staged}
-use Rattle.tbl_box.specs.declared.refusal.Refusal.{Refusal}
+use Rattle.checked_tables.specs.declared.refusal.Refusal.{Refusal}
 use Rattle.fsw_core.specs.declared.Core.{Core}
 use Rattle.fsw_c.specs.TableCodes.{tbl_code, unasked_table_code, table_call_code}
 

@@ -5,11 +5,11 @@ use Rattle.std.specs.Result.{result_err}
 use Rattle.tbl_words.specs.declared.statuses.TblStatus.{TblStatus}
 use Rattle.tbl_words.specs.declared.calls.TblAnswer.{TblAnswer}
 use Rattle.tbl_words.specs.declared.history.Call.{Call}
-use Rattle.tbl_plain.specs.Core.{Acts, HasNextVersion, answer_behind_last}
-use Rattle.tbl_plain.specs.Answers.{done, shared, plain_figures_told}
-use Rattle.tbl_box.specs.declared.refusal.Refusal.{Refusal}
-use Rattle.tbl_box.specs.Asked.{unasked}
-use Rattle.tbl_box.proofs.Apps.{next-or-none}
+use Rattle.table_core.specs.Core.{Acts, HasNextVersion, answer_behind_last}
+use Rattle.table_core.specs.Answers.{done, shared, plain_figures_told}
+use Rattle.checked_tables.specs.declared.refusal.Refusal.{Refusal}
+use Rattle.checked_tables.specs.Asked.{unasked}
+use Rattle.checked_tables.proofs.Apps.{next-or-none}
 use Rattle.fsw_core.specs.declared.Core.{Core}
 use Rattle.fsw_c.specs.TableCodes.{tbl_code, table_code, unasked_table_code, table_call_code}
 use Rattle.fsw_c.specs.TableAnswers.{IsSpent, KeepsBags, TableCall, Unasked, Asked, Spent}

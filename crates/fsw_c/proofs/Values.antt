@@ -10,9 +10,9 @@ use Rattle.fsw_base.specs.declared.statuses.EvsStatus.{EvsStatus}
 use Rattle.fsw_base.specs.declared.statuses.EvsStatus.TheVariants as evs
 use Rattle.bus_words.specs.declared.calls.BusAnswer.{BusAnswer}
 use Rattle.bus_words.specs.declared.history.Call.{Call}
-use Rattle.sb_plain.specs.Core.{Acts}
-use Rattle.sb_box.specs.declared.refusal.Refusal.{Refusal}
-use Rattle.sb_box.specs.declared.refusal.Refusal.TheVariants as why
+use Rattle.bus_core.specs.Core.{Acts}
+use Rattle.checked_bus.specs.declared.refusal.Refusal.{Refusal}
+use Rattle.checked_bus.specs.declared.refusal.Refusal.TheVariants as why
 use Rattle.fsw_core.specs.declared.Core.{Core}
 use Rattle.fsw_c.specs.BusAnswers.{AnswersBus}
 use Rattle.fsw_c.specs.BusCodes.{sb_code, es_code, evs_code, unasked_code, answer_code, call_code}

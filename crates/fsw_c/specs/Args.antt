@@ -5,7 +5,7 @@ use Rattle.fsw_base.specs.declared.config.Scope.{Scope}
 use Rattle.fsw_base.specs.declared.config.Scope.TheVariants.{Global}
 use Rattle.fsw_base.specs.declared.events.EventKind.{EventKind}
 use Rattle.fsw_base.specs.declared.events.EventKind.TheVariants.{Debug}
-use Rattle.sb_box.specs.Asked.{scope_of, kind_of}
+use Rattle.checked_bus.specs.Asked.{scope_of, kind_of}
 use Rattle.fsw_c.specs.declared.events.FswFilter.{FswFilter}
 
 -- the scope of a number; if the number is no scope, the call is refused

@@ -1,8 +1,8 @@
 -- A buffer that C has, to write it in place, and what of it a call leaves.
 use Rattle.std.specs.Prelude.{◌≡◌, ℕ, List, [], Option, Some, None}
 use Rattle.std.specs.Option.{option_map_or}
-use Rattle.sb_box.specs.Box.{bag_of}
-use Rattle.sb_box.specs.Lent.{Lent, written, StaysOut, IsGivenOut}
+use Rattle.checked_bus.specs.Box.{bag_of}
+use Rattle.checked_bus.specs.Lent.{Lent, written, StaysOut, IsGivenOut}
 use Rattle.fsw_core.specs.declared.Core.{Core}
 use Rattle.fsw_c.specs.declared.buffer.FswBuffer.{FswBuffer}
 use Rattle.fsw_c.specs.Lent.{one_of}

@@ -4,15 +4,15 @@ use Rattle.std.specs.Option.{option_map_or}
 use Rattle.fsw_base.specs.declared.statuses.SbStatus.TheVariants.{BufAlocErr}
 use Rattle.fsw_base.specs.declared.statuses.EsStatus.TheVariants.{ErrMemBlockSize}
 use Rattle.housekeeping.specs.declared.names.CounterName.TheVariants.{Send}
-use Rattle.pool_words.specs.Grants.{has_numbers}
+use Rattle.fsw_base.specs.Grants.{has_numbers}
 use Rattle.bus_words.specs.declared.calls.BusAnswer.{BusAnswer}
 use Rattle.bus_words.specs.declared.history.Call.{Call}
 use Rattle.bus_words.specs.declared.history.Call.TheVariants.{Delete, Transmit, Receive, Pend, Look, Allocate, TransmitBuffer, Release, PoolGet, Housekeeping, End}
 use Rattle.bus_words.specs.Bus.{standing_of, waited_on}
-use Rattle.sb_plain.specs.Core.{Acts, with_tick, has_send_number}
-use Rattle.sb_plain.specs.Bags.{KeepsLoans}
-use Rattle.sb_box.specs.declared.refusal.Refusal.{Refusal}
-use Rattle.sb_box.specs.Box.{Boxed, KeepsOtherBags, KeepsOwnBuffers, KeepsOwnViews, bag_of}
+use Rattle.bus_core.specs.Core.{Acts, with_tick, has_send_number}
+use Rattle.bus_core.specs.Bags.{KeepsLoans}
+use Rattle.checked_bus.specs.declared.refusal.Refusal.{Refusal}
+use Rattle.checked_bus.specs.Box.{Boxed, KeepsOtherBags, KeepsOwnBuffers, KeepsOwnViews, bag_of}
 use Rattle.fsw_core.specs.declared.Core.{Core}
 use Rattle.fsw_c.specs.Codes.{closed_code}
 use Rattle.fsw_c.specs.BusCodes.{unasked_code, bus_code, sb_code, es_code}

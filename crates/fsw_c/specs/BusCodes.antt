@@ -9,11 +9,11 @@ use Rattle.fsw_base.specs.declared.statuses.EvsStatus.{EvsStatus}
 use Rattle.fsw_base.specs.declared.statuses.EvsStatus.TheVariants as evs
 use Rattle.bus_words.specs.declared.calls.BusAnswer.{BusAnswer}
 use Rattle.bus_words.specs.declared.calls.BusAnswer.TheVariants as bus
-use Rattle.sb_plain.specs.Answers.{waited}
-use Rattle.sb_plain.specs.declared.receiving.Pended.{Pended}
-use Rattle.sb_box.specs.declared.waits.LookAnswer.{LookAnswer}
-use Rattle.sb_box.specs.declared.refusal.Refusal.{Refusal}
-use Rattle.sb_box.specs.declared.refusal.Refusal.TheVariants as why
+use Rattle.bus_core.specs.Answers.{waited}
+use Rattle.bus_core.specs.declared.receiving.Pended.{Pended}
+use Rattle.checked_bus.specs.declared.waits.LookAnswer.{LookAnswer}
+use Rattle.checked_bus.specs.declared.refusal.Refusal.{Refusal}
+use Rattle.checked_bus.specs.declared.refusal.Refusal.TheVariants as why
 
 abbrev pub sb_code : SbStatus → ℕ
 sb_code sb.NoMessage = 3388997634

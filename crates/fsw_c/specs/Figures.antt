@@ -13,8 +13,8 @@ use Rattle.es_pool.specs.declared.blocks.ClassStats.{ClassStats}
 use Rattle.housekeeping.specs.declared.in_use.InUse.{InUse}
 use Rattle.housekeeping.specs.Counters.{Counts}
 use Rattle.bus_words.specs.Bus.{pipe_at}
-use Rattle.pool_words.specs.Grants.{is_pool, pool_in, answer_in, put_answer, class_under}
-use Rattle.sb_box.specs.Classes.{class_figures}
+use Rattle.fsw_base.specs.Grants.{is_pool, pool_in, answer_in, put_answer, class_under}
+use Rattle.checked_bus.specs.Classes.{class_figures}
 use Rattle.fsw_core.specs.declared.Core.{Core}
 use Rattle.fsw_c.specs.declared.counters.FswCounters.{FswCounters}
 use Rattle.fsw_c.specs.declared.counters.FswUse.{FswUse}

@@ -5,7 +5,7 @@ use base.Fraction.{full_share}
 use denote.Array.{Array}
 use denote.Builtin.{u8}
 use denote.RawPtr.{Ptr, lies_at}
-use Rattle.sb_box.specs.Lent.{Lent}
+use Rattle.checked_bus.specs.Lent.{Lent}
 
 -- the memory at this place, if there is a block: these bytes, as many as the length says
 abbrev pub maybe_lies : Ptr → ℕ → Option (List ℕ) → Fml

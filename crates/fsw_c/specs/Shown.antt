@@ -1,7 +1,7 @@
 -- What C reads where it lies, and the message that an application received last on a pipe.
 use Rattle.std.specs.Prelude.{◌≡◌, ℕ, List, length, Option, Some, None, if◌then◌else◌}
-use Rattle.sb_box.specs.Asked.{is_application}
-use Rattle.sb_box.specs.Box.{Boxed, last_message}
+use Rattle.checked_bus.specs.Asked.{is_application}
+use Rattle.checked_bus.specs.Box.{Boxed, last_message}
 use Rattle.fsw_core.specs.declared.Core.{Core}
 use Rattle.fsw_c.specs.declared.messages.FswMessage.{FswMessage}
 

@@ -4,10 +4,10 @@ use Rattle.tbl_words.specs.declared.calls.TblAnswer.{TblAnswer}
 use Rattle.tbl_words.specs.declared.history.Call.{Call}
 use Rattle.tbl_words.specs.declared.history.Call.TheVariants.{Unregister, Update, Load, GetAddress, ReleaseAddress}
 use Rattle.tbl_words.specs.Tables.{State}
-use Rattle.tbl_plain.specs.Core.{Acts, HasNextVersion, answer_behind_last}
-use Rattle.tbl_box.specs.declared.refusal.Refusal.{Refusal}
-use Rattle.tbl_box.specs.Asked.{unasked}
-use Rattle.tbl_box.specs.Box.{Boxed, KeepsOtherBags, KeepsOtherViews, bag_of}
+use Rattle.table_core.specs.Core.{Acts, HasNextVersion, answer_behind_last}
+use Rattle.checked_tables.specs.declared.refusal.Refusal.{Refusal}
+use Rattle.checked_tables.specs.Asked.{unasked}
+use Rattle.checked_tables.specs.Box.{Boxed, KeepsOtherBags, KeepsOtherViews, bag_of}
 use Rattle.fsw_core.specs.declared.Core.{Core}
 use Rattle.fsw_c.specs.Codes.{closed_code}
 use Rattle.fsw_c.specs.TableCodes.{unasked_table_code, table_code}

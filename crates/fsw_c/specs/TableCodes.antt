@@ -8,10 +8,10 @@ use Rattle.tbl_words.specs.declared.calls.Told.{Told}
 use Rattle.tbl_words.specs.declared.calls.Told.TheVariants.{Same, Updated, NeverLoaded}
 use Rattle.tbl_words.specs.declared.calls.TblAnswer.{TblAnswer}
 use Rattle.tbl_words.specs.declared.calls.TblAnswer.TheVariants as tables
-use Rattle.tbl_plain.specs.declared.answers.PlainAddress.{PlainAddress}
-use Rattle.tbl_plain.specs.Answers.{registered, plain_addressed}
-use Rattle.tbl_box.specs.declared.refusal.Refusal.{Refusal}
-use Rattle.tbl_box.specs.declared.refusal.Refusal.TheVariants as why
+use Rattle.table_core.specs.declared.answers.PlainAddress.{PlainAddress}
+use Rattle.table_core.specs.Answers.{registered, plain_addressed}
+use Rattle.checked_tables.specs.declared.refusal.Refusal.{Refusal}
+use Rattle.checked_tables.specs.declared.refusal.Refusal.TheVariants as why
 
 -- the number of a rule that failed, in a status; no table has more than 8 rules
 abbrev pub rule_number : ℕ → ℕ

@@ -7,7 +7,7 @@ use Rattle.tbl_words.specs.declared.history.Call.{Call}
 use Rattle.tbl_words.specs.Tables.{State, table_of}
 use Rattle.tbl_words.specs.Machine.{cause}
 use Rattle.tbl_words.specs.Uses.{use_of}
-use Rattle.tbl_box.specs.Asked.{unasked}
+use Rattle.checked_tables.specs.Asked.{unasked}
 use Rattle.fsw_core.specs.declared.Core.{Core}
 use Rattle.fsw_c.specs.declared.reading.FswTableStatus.{FswTableStatus}
 use Rattle.fsw_c.specs.declared.reading.FswTableUse.{FswTableUse}

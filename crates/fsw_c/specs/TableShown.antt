@@ -1,7 +1,7 @@
 -- What C reads of a table where it lies.
 use Rattle.std.specs.Prelude.{◌≡◌, ℕ, List, Option, Some, None, if◌then◌else◌}
-use Rattle.tbl_box.specs.Asked.{is_application}
-use Rattle.tbl_box.specs.Box.{Boxed, held_value}
+use Rattle.checked_tables.specs.Asked.{is_application}
+use Rattle.checked_tables.specs.Box.{Boxed, held_value}
 use Rattle.fsw_core.specs.declared.Core.{Core}
 use Rattle.fsw_c.specs.declared.holding.FswAddress.{FswAddress}
 use Rattle.fsw_c.specs.Shown.{shown_length}

@@ -3,7 +3,7 @@ ghost use Rattle.std.specs.Prelude.{◌≡◌, ◌↔◌, None, IsSome};
 ghost use Rattle.fsw_c.specs.Lent.{one_of};
 
 use crate::lent::LentBlock;
-use sb_box::LentBuffer;
+use checked_bus::LentBuffer;
 use std::mem;
 
 /// A buffer of the bus that C has, to write a message where it lies: all zero while it is empty.

@@ -2,7 +2,7 @@
 ghost use Rattle.std.specs.Prelude.{◌≡◌, ◌≢◌, None};
 ghost use Rattle.bus_words.specs.declared.calls.BusAnswer.TheVariants.{Number, Sent};
 ghost use Rattle.bus_words.specs.declared.history.Call.TheVariants.{Allocate, TransmitBuffer, Release};
-ghost use Rattle.sb_box.specs.Asked.{unasked_allocate, unasked_transmit, unasked_release};
+ghost use Rattle.checked_bus.specs.Asked.{unasked_allocate, unasked_transmit, unasked_release};
 ghost use Rattle.fsw_c.specs.BusAnswers.{BusCall, AnswersBus};
 ghost use Rattle.fsw_c.specs.Buffers.{buffer_of, written_in, StaysWith, GivesOut};
 

@@ -1,12 +1,12 @@
 //! Statuses of the bus as C sees them.
 ghost use Rattle.std.specs.Prelude.{◌≡◌};
-ghost use Rattle.sb_plain.specs.Answers.{waited};
+ghost use Rattle.bus_core.specs.Answers.{waited};
 ghost use Rattle.fsw_c.specs.BusCodes.{sb_code, es_code, evs_code, bus_code, unasked_code, answer_code, call_code, plain_code, pend_code, look_code};
 
 use crate::codes::SUCCESS;
+use bus_core::Pended;
+use checked_bus::{LookAnswer, Refusal};
 use fsw_base::{EsStatus, EvsStatus, SbStatus};
-use sb_box::{LookAnswer, Refusal};
-use sb_plain::Pended;
 
 /// No message waits yet; the application waits.
 pub(crate) const PENDING: u32 = 0x4000_0001;

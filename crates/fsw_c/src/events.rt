@@ -2,7 +2,7 @@
 ghost use Rattle.std.specs.Prelude.{◌≡◌, ◌≢◌, ◌≤◌, ◌==◌, length, take, None, IfSome, IfOk, OnErr, slice_get, if◌then◌else◌};
 ghost use Rattle.bus_words.specs.declared.history.Call.TheVariants.{Register, SendEvent, ResetFilter, LogMode, ClearLog};
 ghost use Rattle.evs_events.specs.Views.{line_shown};
-ghost use Rattle.sb_box.specs.Asked.{unasked, unasked_register, unasked_event, unasked_mode};
+ghost use Rattle.checked_bus.specs.Asked.{unasked, unasked_register, unasked_event, unasked_mode};
 ghost use Rattle.fsw_c.specs.Args.{kind_or_debug, pairs_in};
 ghost use Rattle.fsw_c.specs.BusAnswers.{BusCall, AtCores};
 ghost use Rattle.fsw_c.specs.Figures.{ShowsLine, open_code, line_code, counts_shown, stays_filtered};
@@ -12,9 +12,9 @@ use crate::codes::{CLOSED, SUCCESS};
 use crate::handle::FswCore;
 use crate::seen::FswBytes;
 use arrayvec::ArrayVec;
+use checked_bus::Refusal;
 use evs_events::{EventDesk, LogLine};
 use fsw_base::EvsStatus;
-use sb_box::Refusal;
 use std::alloc::Global;
 
 // One filter more than a registration takes: of more, so many show that there are too many.

@@ -2,8 +2,8 @@
 ghost use Rattle.std.specs.Prelude.{◌≡◌, Some, None, Option, IsSome};
 ghost use Rattle.fsw_core.specs.declared.Core.{Core};
 
+use crate::parts::Parts;
 use fsw_core::Core;
-use heap_parts::Parts;
 use std::alloc::Global;
 use std::marker::Model;
 

@@ -11,8 +11,8 @@ use crate::codes::CLOSED;
 use crate::handle::FswCore;
 use crate::seen::FswBytes;
 use crate::table_codes::code_of_address;
+use checked_tables::TblBox;
 use std::alloc::Global;
-use tbl_box::TblBox;
 
 /// A table's bytes, as a handle holds them.
 #[repr(C)]

@@ -27,8 +27,8 @@
 //! - What an export writes is the answer's own value. One that is refused writes nothing (`kept`).
 //! - The length and the number of a received message are those of the application's last message on
 //!   the pipe (`shown`, `number`). No clause has an address: that the pointer is the message's is
-//!   to be read in `FswBytes::of` and in `ReceivedMessage::of` of `sb_box`, which take pointer and
-//!   length from one slice.
+//!   to be read in `FswBytes::of` and in `ReceivedMessage::of` of `checked_bus`, which take pointer
+//!   and length from one slice.
 //! - A buffer that C writes in place is sent as C left it (`written_in`), under its number; if the
 //!   call is refused, C keeps it with what it wrote (`stays`).
 //! - A handle and a buffer may go to another thread (`Send`).
@@ -49,6 +49,7 @@ mod lent;
 mod limits;
 mod messages;
 mod opening;
+mod parts;
 mod pipes;
 mod pools;
 mod reading;

@@ -2,7 +2,7 @@
 ghost use Rattle.std.specs.Prelude.{◌≡◌, ◌≢◌};
 ghost use Rattle.bus_words.specs.declared.history.Call.TheVariants.{Transmit, Receive, Pend, Look, Housekeeping};
 ghost use Rattle.bus_words.specs.declared.calls.BusAnswer.TheVariants.{Sent, Got};
-ghost use Rattle.sb_box.specs.Asked.{unasked, unasked_look};
+ghost use Rattle.checked_bus.specs.Asked.{unasked, unasked_look};
 ghost use Rattle.fsw_c.specs.BusAnswers.{BusCall, AnswersBus, pipe_waited_on};
 ghost use Rattle.fsw_c.specs.Shown.{ShowsLast, last_shown, shown_length};
 
@@ -10,8 +10,8 @@ use crate::bus_codes::{code_of_call, code_of_look, code_of_pend};
 use crate::codes::CLOSED;
 use crate::handle::FswCore;
 use crate::seen::FswBytes;
-use sb_box::{LookAnswer, ReceivedMessage, SbBox};
-use sb_plain::Pended;
+use bus_core::Pended;
+use checked_bus::{LookAnswer, ReceivedMessage, SbBox};
 use std::alloc::Global;
 use std::marker::Brand;
 use step_count::Blank;
@@ -28,7 +28,7 @@ pub struct FswSent {
 
 impl FswSent {
     /// Tells what the bus answered, field by field, so that no bytes behind them are written.
-    pub(crate) fn tell(&mut self, sent: sb_plain::Sent)
+    pub(crate) fn tell(&mut self, sent: bus_core::Sent)
         ensures number { self.new.number ≡ sent.number }
         ensures reached { self.new.reached ≡ sent.reached }
     {

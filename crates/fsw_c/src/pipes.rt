@@ -3,8 +3,8 @@ ghost use Rattle.std.specs.Prelude.{◌≡◌, ◌≢◌, ◌≤◌, ◌<◌, �
 ghost use Rattle.bus_words.specs.declared.history.Call.TheVariants.{Create, Delete, SetOpts, GetOpts, Find, PipeName};
 ghost use Rattle.bus_words.specs.declared.calls.BusAnswer.TheVariants.{Number, Name};
 ghost use Rattle.bus_words.specs.Machine.{refused_if};
-ghost use Rattle.sb_box.specs.declared.refusal.Refusal.TheVariants.{TooLong};
-ghost use Rattle.sb_box.specs.Asked.{unasked};
+ghost use Rattle.checked_bus.specs.declared.refusal.Refusal.TheVariants.{TooLong};
+ghost use Rattle.checked_bus.specs.Asked.{unasked};
 ghost use Rattle.fsw_c.specs.BusAnswers.{BusCall, AnyonesCall, AnswersBus};
 ghost use Rattle.fsw_c.specs.Figures.{few_code, waiting_on, waiting_code};
 
@@ -12,8 +12,8 @@ use crate::bus_codes::{SB_BAD_ARGUMENT, code_of_answer, code_of_call};
 use crate::codes::{CLOSED, SUCCESS};
 use crate::handle::FswCore;
 use bus_words::{NAME_BYTES, PipeText};
+use checked_bus::Refusal;
 use fsw_base::SbStatus;
-use sb_box::Refusal;
 use std::alloc::Global;
 use std::marker::Brand;
 use step_count::Blank;

@@ -2,7 +2,7 @@
 ghost use Rattle.std.specs.Prelude.{◌≡◌, ◌≢◌, ℕ, None, Some, IfSome, IfOk, OnErr};
 ghost use Rattle.bus_words.specs.declared.history.Call.TheVariants.{PoolCreate, PoolGet, PoolPut, PoolFigures};
 ghost use Rattle.bus_words.specs.declared.calls.BusAnswer.TheVariants.{Number, Pool};
-ghost use Rattle.sb_box.specs.Asked.{unasked};
+ghost use Rattle.checked_bus.specs.Asked.{unasked};
 ghost use Rattle.fsw_c.specs.BusAnswers.{BusCall, AnyonesCall, AnswersBus};
 ghost use Rattle.fsw_c.specs.Figures.{stats_in, class_of, class_code, class_shown, block_code, ShowsBlock};
 

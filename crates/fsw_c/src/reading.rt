@@ -2,7 +2,7 @@
 ghost use Rattle.std.specs.Prelude.{◌≡◌, ◌≢◌};
 ghost use Rattle.tbl_words.specs.declared.history.Call.TheVariants.{Abort, Status};
 ghost use Rattle.tbl_words.specs.declared.calls.TblAnswer.TheVariants.{State};
-ghost use Rattle.tbl_plain.specs.Answers.{state_of};
+ghost use Rattle.table_core.specs.Answers.{state_of};
 ghost use Rattle.fsw_c.specs.TableAnswers.{TableCall, AnswersTables};
 ghost use Rattle.fsw_c.specs.TableReads.{read_code, use_code, state_in, ShowsStaged, ShowsUse};
 
@@ -11,7 +11,7 @@ use crate::handle::FswCore;
 use crate::seen::FswBytes;
 use crate::table_codes::code_of_table_call;
 use std::alloc::Global;
-use tbl_plain::PlainState;
+use table_core::PlainState;
 
 /// What of the tables is in use.
 #[repr(C)]

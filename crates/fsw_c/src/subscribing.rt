@@ -1,7 +1,7 @@
 //! Subscriptions.
 ghost use Rattle.std.specs.Prelude.{◌≡◌};
 ghost use Rattle.bus_words.specs.declared.history.Call.TheVariants.{Subscribe, Unsubscribe};
-ghost use Rattle.sb_box.specs.Asked.{unasked, unasked_subscribe};
+ghost use Rattle.checked_bus.specs.Asked.{unasked, unasked_subscribe};
 ghost use Rattle.fsw_c.specs.Args.{scope_or_global};
 ghost use Rattle.fsw_c.specs.BusAnswers.{BusCall};
 

@@ -5,8 +5,8 @@ ghost use Rattle.fsw_c.specs.TableCodes.{rule_number, tbl_code, table_code, unas
 ghost use Rattle.fsw_c.specs.TableCodes.{registration_code, address_code};
 
 use crate::codes::SUCCESS;
-use tbl_box::Refusal;
-use tbl_plain::PlainAddress;
+use checked_tables::Refusal;
+use table_core::PlainAddress;
 use tbl_words::{Registered, TblStatus, Told};
 
 /// The table was registered before.

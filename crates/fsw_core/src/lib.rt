@@ -28,18 +28,18 @@ ghost use Rattle.bus_words.specs.declared.history.Call.TheVariants.{End};
 ghost use Rattle.tbl_words.specs.Tables.{opening};
 ghost use Rattle.tbl_words.specs.declared.calls.TblAnswer.TheVariants.{Done as TableDone};
 ghost use Rattle.tbl_words.specs.declared.history.Call.TheVariants.{End as TableEnd};
-ghost use Rattle.sb_plain.specs.Core.{Acts};
-ghost use Rattle.tbl_plain.specs.Core.{Acts as TableActs};
-ghost use Rattle.sb_box.specs.Asked.{unasked_end};
-ghost use Rattle.sb_box.specs.Box.{KeepsOtherBags, bag_of};
-ghost use Rattle.tbl_box.specs.Asked.{unasked as unasked_tables};
-ghost use Rattle.tbl_box.specs.Box.{KeepsOtherBags as KeepsOtherTables, bag_of as table_bag_of};
+ghost use Rattle.bus_core.specs.Core.{Acts};
+ghost use Rattle.table_core.specs.Core.{Acts as TableActs};
+ghost use Rattle.checked_bus.specs.Asked.{unasked_end};
+ghost use Rattle.checked_bus.specs.Box.{KeepsOtherBags, bag_of};
+ghost use Rattle.checked_tables.specs.Asked.{unasked as unasked_tables};
+ghost use Rattle.checked_tables.specs.Box.{KeepsOtherBags as KeepsOtherTables, bag_of as table_bag_of};
 
+use checked_bus::{Refusal, SbBox};
+use checked_tables::TblBox;
 use fsw_base::Config;
-use sb_box::{Refusal, SbBox};
 use std::alloc::{AllocError, Global};
 use step_count::{Blank, Ledger};
-use tbl_box::TblBox;
 
 /// The bus and the tables of the same applications.
 #[derive(Drop)]

@@ -1,7 +1,7 @@
 -- What the top call did, put together of what happened on each word.
 use Rattle.std.proofs.Common.{◌≡◌, ℕ, List, Option, Some, None, subst}
-use Rattle.script_generate.specs.Generated.{generated}
-use Rattle.script_printing.specs.ScriptSpelling.{spelled_script}
+use Rattle.script_text.specs.Generated.{generated}
+use Rattle.script_text.specs.ScriptSpelling.{spelled_script}
 use Rattle.script_runs.specs.Histories.{Histories}
 use Rattle.host_run.specs.Serve.{Fed, Made, Outside, Served, Serves, Shows, Packs, Judges, OtherWords, Soaks, HasCauses, MakesNothing, OnThreads, Rotating}
 use Rattle.host_run.specs.declared.reporting.Part.TheVariants.{Ending}

@@ -20,8 +20,8 @@ use Rattle.script_runs.specs.Histories.{Histories}
 use Rattle.script_runs.specs.Runs.{IsRunOf, Guarantees}
 use Rattle.script_runs.specs.Rotation.{rotation}
 use Rattle.app_script.specs.Script.{ScriptText}
-use Rattle.script_generate.specs.Generated.{generated}
-use Rattle.script_printing.specs.ScriptSpelling.{spelled_script}
+use Rattle.script_text.specs.Generated.{generated}
+use Rattle.script_text.specs.ScriptSpelling.{spelled_script}
 use Rattle.bridge_plan.specs.declared.fail.PlanFault.{PlanFault}
 use Rattle.bridge_plan.specs.declared.fail.PlanFault.TheVariants as no_plan
 use Rattle.bridge_plan.specs.Grammar.{plan_of}

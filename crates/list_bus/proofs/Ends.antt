@@ -1,7 +1,7 @@
 -- What the end of an application leaves.
 use Rattle.std.proofs.Common.{◌≡◌, ℕ, ◌-◌, not, List, set, sym, ap, ◌∙◌}
 use Rattle.std.specs.List.{filter}
-use Rattle.pool_words.specs.Grants.{Pools, all_after_end}
+use Rattle.fsw_base.specs.Grants.{Pools, all_after_end}
 use Rattle.bus_words.specs.declared.calls.BusAnswer.{BusAnswer}
 use Rattle.bus_words.specs.declared.calls.BusAnswer.TheVariants.{Done}
 use Rattle.bus_words.specs.declared.history.Call.TheVariants.{End}

@@ -6,7 +6,7 @@ use Rattle.fsw_base.specs.PoolAccounts.{has_room, has_room_if, has_room_for}
 use Rattle.fsw_base.specs.declared.config.PoolStats.{PoolStats}
 use Rattle.fsw_base.specs.declared.statuses.EsStatus.{EsStatus}
 use Rattle.fsw_base.specs.declared.statuses.EsStatus.TheVariants.{ErrMemBlockSize, NoPool, BufferNotInPool, PoolBlockInvalid}
-use Rattle.pool_words.specs.Grants.{PoolGrants, Pools, new_pool, is_pool, pool_in, with_pool, with_grant, pool_account, refuses_pool, create_answer, after_create, after_get, after_get_if, get_answer, after_put, put_answer, answer_in, was_given, is_among, figures_of}
+use Rattle.fsw_base.specs.Grants.{PoolGrants, Pools, new_pool, is_pool, pool_in, with_pool, with_grant, pool_account, refuses_pool, create_answer, after_create, after_get, after_get_if, get_answer, after_put, put_answer, answer_in, was_given, is_among, figures_of}
 use Rattle.bus_words.specs.declared.calls.BusAnswer.{BusAnswer}
 use Rattle.bus_words.specs.declared.history.Call.TheVariants.{PoolCreate, PoolGet, PoolPut, PoolFigures}
 use Rattle.bus_words.specs.Refusals.{Refusal, OfPools}

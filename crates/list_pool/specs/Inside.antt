@@ -2,7 +2,7 @@
 use Rattle.std.specs.Prelude.{◌≡◌, ℕ, ◌-◌, ◌<◌, ◌≤◌, ◌&&◌, nat_le, true, length, IsTrue}
 use Rattle.fsw_base.specs.Blocks.{are_block_sizes}
 use Rattle.fsw_base.specs.PoolAccounts.{Account}
-use Rattle.pool_words.specs.Grants.{PoolGrants, Pools}
+use Rattle.fsw_base.specs.Grants.{PoolGrants, Pools}
 use Rattle.list_pool.specs.declared.account.ListAccount.TheInside as account
 use Rattle.list_pool.specs.declared.grants.GrantPool.TheInside as grants
 use Rattle.list_pool.specs.declared.pools.GrantPools.TheInside as pools

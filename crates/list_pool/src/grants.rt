@@ -2,7 +2,7 @@
 ghost use Rattle.std.specs.Prelude.{◌≡◌, ◌&&◌, nat_le, ◌+◌, ◌<◌, if◌then◌else◌, length, slice_index, IfOk, Some};
 ghost use Rattle.std.specs.Result.{OnOk};
 ghost use Rattle.fsw_base.specs.PoolAccounts.{has_room_for, after_draw};
-ghost use Rattle.pool_words.specs.Grants.{new_pool, get_answer, after_get, after_get_if, put_answer, after_put, after_end, figures_of, pool_account, is_among, without, of_others, out_of, blocks_out};
+ghost use Rattle.fsw_base.specs.Grants.{new_pool, get_answer, after_get, after_get_if, put_answer, after_put, after_end, figures_of, pool_account, is_among, without, of_others, out_of, blocks_out};
 
 use crate::account::{ListAccount, free_of, has_room_in};
 use crate::numbers::{narrow, zeros};
@@ -22,7 +22,7 @@ struct ListGrant {
 }
 
 impl Model for ListGrant {
-    ghost use Rattle.pool_words.specs.Grants.{Grant};
+    ghost use Rattle.fsw_base.specs.Grants.{Grant};
 
     ghost Value = { Grant };
 
@@ -52,7 +52,7 @@ pub struct GrantPool {
 }
 
 impl Model for GrantPool {
-    ghost use Rattle.pool_words.specs.Grants.{PoolGrants};
+    ghost use Rattle.fsw_base.specs.Grants.{PoolGrants};
 
     ghost Value = { PoolGrants };
 
@@ -116,7 +116,7 @@ impl GrantPool {
     }
 
     // One block of a size more than are out.
-    #[tactic(auto, using(pool_words::proofs::Accounts::counts_at))]
+    #[tactic(auto, using(fsw_base::proofs::GrantAccounts::counts_at))]
     fn one_more(&self, class: u32) -> Result<u32, AllocError>
         requires { class < length self.now.sizes }
         ensures { IfOk result

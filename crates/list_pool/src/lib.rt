@@ -2,8 +2,8 @@
 //! each block size how many blocks were made and how many are out, and the grants that are out.
 //! There are no blocks, no free lists and no links.
 //!
-//! Each call answers and leaves exactly what the definitions of `pool_words` say, and an account is
-//! that of `fsw_base`'s definitions.
+//! Each call answers and leaves exactly what the definitions of pools in `fsw_base` say, and an
+//! account is that of the same definitions.
 //!
 //! ```
 //! /// Takes a grant of the first pool and gives it back.
@@ -20,7 +20,7 @@
 //!
 //! # Proved
 //!
-//! - `create`, `get`, `put`, `figures` and `end` of `GrantPools` are those of `pool_words`, in any
+//! - `create`, `get`, `put`, `figures` and `end` of `GrantPools` are those of `fsw_base`, in any
 //!   state: nothing is asked of the pools.
 //! - `account` of a `GrantPool` counts the blocks out from the grants that are out.
 //! - `ListAccount` draws and gives back as `fsw_base`'s accounts do. `has_room_in` tells the same

@@ -2,7 +2,7 @@
 ghost use Rattle.std.specs.Prelude.{◌≡◌, ◌+◌, ◌-◌, ◌<◌, ◌≤◌, ◌&&◌, nat_le, false, [], length, map, slice_index, IsTrue, IfOk, IfSome, Ok, None};
 ghost use Rattle.std.specs.Result.{OnOk};
 ghost use Rattle.fsw_base.specs.PoolAccounts.{overhead};
-ghost use Rattle.pool_words.specs.Grants.{is_pool, pool_in, with_pool, refuses_pool, create_answer, after_create, answer_in, get_answer, after_get, put_answer, after_put, figures_of, after_end, all_after_end};
+ghost use Rattle.fsw_base.specs.Grants.{is_pool, pool_in, with_pool, refuses_pool, create_answer, after_create, answer_in, get_answer, after_get, put_answer, after_put, figures_of, after_end, all_after_end};
 ghost use Rattle.list_pool.specs.Inside.{IsPlace};
 
 use crate::account::OVERHEAD;
@@ -29,7 +29,7 @@ pub struct GrantPools {
 }
 
 impl Model for GrantPools {
-    ghost use Rattle.pool_words.specs.Grants.{Pools};
+    ghost use Rattle.fsw_base.specs.Grants.{Pools};
 
     ghost Value = { Pools };
 

@@ -7,7 +7,7 @@ use Rattle.lend_block.specs.Loan.{LentBytes}
 use Rattle.buf_desc.specs.Block.{Unsent}
 use Rattle.buf_desc.specs.Fronts.{overwritten, with_bytes as with_block_bytes}
 use Rattle.buf_desc.specs.Held.{Holding, buffer_at, bytes_at, with_bytes_at}
-use Rattle.bus_store.specs.Bag.{shape_of}
+use Rattle.bus_messages.specs.Bag.{shape_of}
 use Rattle.script_runs.specs.Messages.{sent_message}
 use Rattle.script_runs.specs.Written.{with_bytes}
 use Rattle.script_runs.proofs.Buffers.{length-sent_message}

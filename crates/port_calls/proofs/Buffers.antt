@@ -7,9 +7,9 @@ use Rattle.bus_words.specs.declared.calls.BusAnswer.{BusAnswer}
 use Rattle.bus_words.specs.declared.history.Call.{Call}
 use Rattle.bus_words.specs.declared.history.Call.TheVariants as calls
 use Rattle.sb_calls.specs.declared.results.Sent.{Sent}
-use Rattle.sb_plain.specs.Answers.{numbered, done}
+use Rattle.bus_core.specs.Answers.{numbered, done}
 use Rattle.sb_calls.specs.Answers.{sent}
-use Rattle.sb_plain.specs.Bags.{KeepsBuffers}
+use Rattle.bus_core.specs.Bags.{KeepsBuffers}
 use Rattle.sb_calls.specs.Bags.{HasBag}
 use Rattle.sb_calls.specs.Core.{MayCall}
 use Rattle.sb_calls.proofs.OthersBags.{others_behind}

@@ -1,6 +1,6 @@
 //! A call of the tables by a port.
 ghost use Rattle.std.specs.Prelude.{◌≡◌};
-ghost use Rattle.tbl_plain.specs.Answers.{registered, shared, figures_told, addressed, done};
+ghost use Rattle.table_core.specs.Answers.{registered, shared, figures_told, addressed, done};
 ghost use Rattle.tbl_load.specs.Core.{MayCall};
 ghost use Rattle.tbl_service.specs.Ports.{Answers};
 ghost use Rattle.tbl_words.specs.Entries.{call_of};

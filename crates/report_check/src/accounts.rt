@@ -1,6 +1,6 @@
 //! The lines on memory pools that are kept as numbers alone.
 ghost use Rattle.std.specs.Prelude.{◌≡◌, ◌<◌, ◌^◌, length, map, IfOk};
-ghost use Rattle.pool_words.specs.Grants.{pool_account};
+ghost use Rattle.fsw_base.specs.Grants.{pool_account};
 ghost use Rattle.text_page.specs.Pieces.{Puts};
 ghost use Rattle.run_report.specs.CounterText.{accounts_text};
 

@@ -1,6 +1,6 @@
 //! The end of a report, behind its lines on the tables.
 ghost use Rattle.std.specs.Prelude.{◌≡◌, ◌≤◌, false, true, length, map, IfOk, OnErr, OnOk};
-ghost use Rattle.pool_words.specs.Grants.{pool_account};
+ghost use Rattle.fsw_base.specs.Grants.{pool_account};
 ghost use Rattle.list_bus.specs.Played.{IsPlayed};
 ghost use Rattle.text_page.specs.Pieces.{Grew, Puts};
 ghost use Rattle.run_report.specs.Report.{ending_text, figures_shown};

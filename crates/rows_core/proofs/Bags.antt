@@ -4,7 +4,7 @@ use Rattle.std.specs.List.{slice_get}
 use Rattle.std.specs.Option.{option_map_or}
 use Rattle.lend_block.specs.Loan.{LentBytes}
 use Rattle.buf_desc.specs.Held.{Holding}
-use Rattle.bus_store.specs.Bag.{HoldsViews}
+use Rattle.bus_messages.specs.Bag.{HoldsViews}
 use Rattle.sb_calls.specs.Bags.{HasBag, KeepsOtherBags, loans_of}
 use Rattle.sb_calls.specs.Core.{Core, state_of}
 use Rattle.rows_core.specs.Bags.{IsWrittenOver, empty_bag}

@@ -2,7 +2,7 @@
 use Rattle.std.proofs.Common.{◌≡◌, ℕ, eqb, Bool, true, false, List, [], length, refl, ap, sym, ◌∙◌, subst}
 use Rattle.std.proofs.lemmas.Bool.{eqb-true, eqb-false}
 use Rattle.lend_block.specs.Loan.{LentBytes}
-use Rattle.tbl_blocks.specs.Held.{HeldViews, held_at}
+use Rattle.table_blocks.specs.Held.{HeldViews, held_at}
 use Rattle.tbl_load.specs.Bags.{HasBag, KeepsOtherBags}
 use Rattle.tbl_load.specs.Core.{Core}
 use Rattle.rows_core.specs.InsideUnused.{AreUnused}

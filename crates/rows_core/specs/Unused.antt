@@ -1,5 +1,5 @@
 -- Tables that nobody uses.
-use Rattle.tbl_blocks.specs.Held.{HeldViews}
+use Rattle.table_blocks.specs.Held.{HeldViews}
 use Rattle.tbl_load.specs.Core.{Core}
 
 -- tables, and the bag that each of their applications has

@@ -2,7 +2,7 @@
 use Rattle.std.proofs.Common.{◌≡◌, ◌≢◌, ℕ, zero, suc, ◌+◌, ◌≤◌, ◌⊎◌, inl, inr, List, [], ◌∷◌, set, replicate, length, ◌<◌, get_or, Some, refl, ap, sym, ◌∙◌, subst, arith}
 use Rattle.std.specs.List.{slice_get}
 use Rattle.std.specs.Option.{option_map_or}
-use Rattle.tbl_blocks.specs.Held.{HeldViews}
+use Rattle.table_blocks.specs.Held.{HeldViews}
 use Rattle.tbl_load.specs.Bags.{HasBag, KeepsOtherBags}
 use Rattle.tbl_load.specs.Core.{Core}
 use Rattle.rows_table.specs.Bags.{empty_bag}

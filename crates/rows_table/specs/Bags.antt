@@ -1,6 +1,6 @@
 -- Tables with the bags of their applications.
 use Rattle.std.specs.Prelude.{ℕ, List, []}
-use Rattle.tbl_blocks.specs.Held.{HeldViews}
+use Rattle.table_blocks.specs.Held.{HeldViews}
 use Rattle.tbl_load.specs.Core.{Core}
 
 -- tables, and the bags of their applications in order

@@ -1,6 +1,6 @@
 -- What is always true of tables with their bags.
 use Rattle.std.specs.Prelude.{◌≡◌, ℕ, ◌+◌, List, Some, slice_get}
-use Rattle.tbl_blocks.specs.Held.{HeldViews}
+use Rattle.table_blocks.specs.Held.{HeldViews}
 use Rattle.tbl_load.specs.Bags.{HasBag}
 use Rattle.tbl_load.specs.Core.{Core}
 

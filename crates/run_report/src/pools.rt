@@ -1,7 +1,7 @@
 //! The lines on memory pools: the bus's own, those that applications created, and the tables'.
 ghost use Rattle.std.specs.Prelude.{◌≡◌, ◌<◌, ℕ, length, map};
 ghost use Rattle.std.specs.List.{flat_map, range_with_len};
-ghost use Rattle.pool_words.specs.Grants.{pool_account};
+ghost use Rattle.fsw_base.specs.Grants.{pool_account};
 ghost use Rattle.text_page.specs.Pieces.{Puts};
 ghost use Rattle.fsw_base.specs.PoolAccounts.{Account};
 ghost use Rattle.run_report.specs.CounterText.{account_read, class_in, figures_in, pool_head, class_head, pool_text, class_text, account_text, accounts_text};

@@ -28,7 +28,7 @@ use Rattle.bus_words.proofs.Journals.{length-left_of}
 use Rattle.bus_words.proofs.OwnEntries.{left_by_own, state_further}
 use Rattle.bus_words.proofs.OwnStandings.{stands_by_last}
 use Rattle.bus_words.proofs.Steps.{AreNumbered-after}
-use Rattle.sb_plain.specs.Core.{is_within}
+use Rattle.bus_core.specs.Core.{is_within}
 use Rattle.sb_calls.specs.Bags.{last_message}
 use Rattle.sb_calls.specs.Core.{Core, IsLegalCore, MayCall, apps_of, state_of, with_noted}
 use Rattle.sb_calls.specs.Notes.{note_due}

@@ -19,15 +19,15 @@ use Rattle.bus_words.specs.Log.{with_entry}
 use Rattle.bus_words.specs.Machine.{brings}
 use Rattle.bus_words.proofs.Finds.{same-self}
 use Rattle.bus_words.proofs.UnsentSteps.{gone-unsent}
-use Rattle.bus_store.specs.Bag.{Shape, shape_of}
-use Rattle.bus_store.specs.Store.{BufferDesc}
-use Rattle.bus_store.specs.Words.{desc_of, size_for}
+use Rattle.bus_messages.specs.Bag.{Shape, shape_of}
+use Rattle.bus_messages.specs.Store.{BufferDesc}
+use Rattle.bus_messages.specs.Words.{desc_of, size_for}
 use Rattle.sb_calls.specs.declared.results.Sent.{Sent as SentTo}
-use Rattle.sb_plain.specs.Answers.{numbered, done}
+use Rattle.bus_core.specs.Answers.{numbered, done}
 use Rattle.sb_calls.specs.Answers.{sent}
-use Rattle.sb_plain.specs.Bags.{HasBag, KeepsAllLoans, KeepsDescs}
-use Rattle.sb_plain.specs.Core.{Plain, Acts, with_tick}
-use Rattle.sb_calls.specs.declared.bus_core.BusCore.TheInside.{Inside}
+use Rattle.bus_core.specs.Bags.{HasBag, KeepsAllLoans, KeepsDescs}
+use Rattle.bus_core.specs.Core.{Plain, Acts, with_tick}
+use Rattle.sb_calls.specs.declared.journalled.BusCore.TheInside.{Inside}
 use Rattle.sb_calls.specs.Inside.{Stands}
 use Rattle.sb_calls.specs.Notes.{NotedLog, note_given, note_told}
 use Rattle.sb_calls.proofs.Holds.{bytes-due}

@@ -25,13 +25,13 @@ use Rattle.bus_words.proofs.Ties.{is_live-owns}
 use Rattle.bus_words.proofs.UnsentBuffers.{AreUnsent-after}
 use Rattle.bus_words.proofs.UnsentSteps.{all_gone-unsent}
 use Rattle.bus_words.specs.Pipes.{last_on}
-use Rattle.bus_store.specs.Words.{loan_of, desc_of}
+use Rattle.bus_messages.specs.Words.{loan_of, desc_of}
 use Rattle.sb_calls.specs.declared.results.Sent.{Sent}
-use Rattle.sb_plain.specs.Answers.{numbered, named, done, pool_told, grant_back, figures_told, event_told}
+use Rattle.bus_core.specs.Answers.{numbered, named, done, pool_told, grant_back, figures_told, event_told}
 use Rattle.sb_calls.specs.Answers.{sent}
-use Rattle.sb_plain.specs.Bags.{HasBag, KeepsAllLoans, KeepsLoans, KeepsOtherLoans, KeepsAllDescs, KeepsOtherDescs}
-use Rattle.sb_plain.specs.Core.{Plain, Acts}
-use Rattle.sb_calls.specs.declared.bus_core.BusCore.TheInside.{Inside}
+use Rattle.bus_core.specs.Bags.{HasBag, KeepsAllLoans, KeepsLoans, KeepsOtherLoans, KeepsAllDescs, KeepsOtherDescs}
+use Rattle.bus_core.specs.Core.{Plain, Acts}
+use Rattle.sb_calls.specs.declared.journalled.BusCore.TheInside.{Inside}
 use Rattle.sb_calls.specs.Inside.{Stands}
 use Rattle.sb_calls.specs.Notes.{NotedLog, note_due, note_seen, gives_buffer}
 use Rattle.sb_calls.proofs.Fares.{Fares, Given, Emptied, Refused, waits_own, fares-receive, fares-pend, fares-look, fares-delete}

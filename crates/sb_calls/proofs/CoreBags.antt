@@ -6,11 +6,11 @@ use Rattle.buf_desc.specs.Held.{Holding}
 use Rattle.bus_words.specs.Bus.{Item, State, owns, unsent_of}
 use Rattle.bus_words.specs.Held.{is_unsent}
 use Rattle.bus_words.proofs.Buffers.{unsent_here}
-use Rattle.bus_store.specs.Bag.{views_due}
+use Rattle.bus_messages.specs.Bag.{views_due}
 use Rattle.bus_words.specs.Pipes.{last_on}
-use Rattle.bus_store.specs.Words.{loan_of, desc_of}
-use Rattle.sb_plain.specs.Bags as plain
-use Rattle.sb_calls.specs.declared.bus_core.BusCore.TheInside.{Inside}
+use Rattle.bus_messages.specs.Words.{loan_of, desc_of}
+use Rattle.bus_core.specs.Bags as plain
+use Rattle.sb_calls.specs.declared.journalled.BusCore.TheInside.{Inside}
 use Rattle.sb_calls.specs.Bags.{HasBag, KeepsBags, AreOneLoan, loans_of, descs_of}
 use Rattle.sb_calls.specs.Core.{Core, state_of}
 use Rattle.sb_calls.specs.Inside.{core_of, Stands}

@@ -5,8 +5,8 @@ use Rattle.buf_desc.specs.Desk.{Buffers}
 use Rattle.buf_desc.specs.Slots.{slot_at, number_in}
 use Rattle.bus_words.specs.Bus.{State}
 use Rattle.es_pool.specs.Pool.{PoolState}
-use Rattle.bus_store.specs.Blocks.{AreBlocks, IsBlockPool}
-use Rattle.sb_calls.specs.declared.bus_core.BusCore.TheInside.{Inside}
+use Rattle.bus_messages.specs.Blocks.{AreBlocks, IsBlockPool}
+use Rattle.sb_calls.specs.declared.journalled.BusCore.TheInside.{Inside}
 use Rattle.sb_calls.specs.Bags.{loans_of, descs_of}
 use Rattle.sb_calls.specs.Core.{state_of}
 use Rattle.sb_calls.specs.Inside.{core_of, Stands}

@@ -3,7 +3,7 @@ use Rattle.std.proofs.Common.{◌≡◌, ℕ, ◌+◌, ◌^◌, ◌<◌, ◌≤�
 use Rattle.std.proofs.lemmas.Bool.Decides.{nat_tests}
 use Rattle.std.proofs.lemmas.List.{length_push}
 use Rattle.fsw_base.specs.Limits.{Limits}
-use Rattle.pool_words.specs.Grants.{pool_in}
+use Rattle.fsw_base.specs.Grants.{pool_in}
 use Rattle.bus_words.specs.declared.calls.BusAnswer.{BusAnswer}
 use Rattle.bus_words.specs.declared.history.Call.{Call}
 use Rattle.bus_words.specs.declared.history.Entry.{Entry}
@@ -26,9 +26,9 @@ use Rattle.bus_words.proofs.Steps.{AreCounted-after, length-standings}
 use Rattle.bus_words.proofs.PoolGrants.{ArePools-after}
 use Rattle.journal_store.proofs.Charges.{entries_left-charged}
 use Rattle.bus_words.specs.Pipes.{last_on}
-use Rattle.bus_store.specs.Words.{loan_of, desc_of}
-use Rattle.sb_plain.specs.Core.{Plain, MayAct, Acts, apps_in, has_pipe_number, has_subscription_number}
-use Rattle.sb_calls.specs.declared.bus_core.BusCore.TheInside.{Inside}
+use Rattle.bus_messages.specs.Words.{loan_of, desc_of}
+use Rattle.bus_core.specs.Core.{Plain, MayAct, Acts, apps_in, has_pipe_number, has_subscription_number}
+use Rattle.sb_calls.specs.declared.journalled.BusCore.TheInside.{Inside}
 use Rattle.sb_calls.specs.Core.{Core, MayCall, Does, IsLegalCore, IsNoted, with_noted, state_of}
 use Rattle.sb_calls.specs.Inside.{core_of, Stands}
 use Rattle.sb_calls.specs.Notes.{NotedLog, loan_in, note_due, noted, gives_buffer, noted_desc}

@@ -2,7 +2,7 @@
 use Rattle.std.proofs.Common.{ℕ, zero, suc, ◌+◌, ◌-◌, ◌^◌, ◌<◌, ◌≤◌, List, [], ◌∷◌, get_or, All, arith}
 use Rattle.std.proofs.lemmas.List.Elements.{All-head, All-tail}
 use Rattle.fsw_base.specs.Limits.{Limits}
-use Rattle.pool_words.specs.Grants.{PoolGrants, Pools, new_pool, pool_in}
+use Rattle.fsw_base.specs.Grants.{PoolGrants, Pools, new_pool, pool_in}
 use Rattle.bus_words.specs.Bus.{ArePools}
 
 -- at a place behind the last pool is one that gave none

@@ -8,10 +8,10 @@ use Rattle.buf_desc.specs.Held.{Holding, buffer_at, bytes_at}
 use Rattle.bus_words.specs.Bus.{Item, Pipe, Buffer, pipe_at, is_live, owns, unsent_of, unsent_at, has_unsent, unsent_size}
 use Rattle.bus_words.specs.Held.{is_unsent, buffers_in}
 use Rattle.bus_words.proofs.Buffers.{of_buffer, unsent_in}
-use Rattle.bus_store.specs.Bag.{HoldsViews, HoldsBuffers, Shape, shape_of, view_due, views_due}
-use Rattle.bus_store.specs.Store.{LastLoan, BufferDesc}
+use Rattle.bus_messages.specs.Bag.{HoldsViews, HoldsBuffers, Shape, shape_of, view_due, views_due}
+use Rattle.bus_messages.specs.Store.{LastLoan, BufferDesc}
 use Rattle.bus_words.specs.Pipes.{last_on}
-use Rattle.bus_store.specs.Words.{loan_of, desc_of, size_for}
+use Rattle.bus_messages.specs.Words.{loan_of, desc_of, size_for}
 
 -- Views. --
 

@@ -7,8 +7,8 @@ use Rattle.bus_words.specs.Machine.{makes_entry, step}
 use Rattle.sb_calls.specs.declared.results.Pended.{Pended}
 use Rattle.sb_calls.specs.declared.results.Pended.TheVariants as waits
 use Rattle.sb_calls.specs.Answers.{waited, is_pending}
-use Rattle.sb_plain.specs.Core.{Plain, Acts}
-use Rattle.sb_calls.specs.declared.bus_core.BusCore.TheInside.{Inside}
+use Rattle.bus_core.specs.Core.{Plain, Acts}
+use Rattle.sb_calls.specs.declared.journalled.BusCore.TheInside.{Inside}
 use Rattle.sb_calls.specs.Core.{Core, Does, Looks, state_of}
 use Rattle.sb_calls.specs.Inside.{core_of, Stands}
 use Rattle.sb_calls.proofs.EntryLemma.{bus_is, step_is}

@@ -6,8 +6,8 @@ use Rattle.buf_desc.specs.Block.{Unsent}
 use Rattle.buf_desc.specs.Held.{Holding, view_at}
 use Rattle.bus_words.specs.declared.history.Entry.{Entry}
 use Rattle.bus_words.specs.Bus.{Buffer}
-use Rattle.bus_store.specs.Bag.{Shape, shape_of}
-use Rattle.bus_store.specs.Words.{desc_of, size_for}
+use Rattle.bus_messages.specs.Bag.{Shape, shape_of}
+use Rattle.bus_messages.specs.Words.{desc_of, size_for}
 use Rattle.sb_calls.specs.Bags.{HasBag, descs_of}
 use Rattle.sb_calls.specs.Core.{Core, apps_of}
 

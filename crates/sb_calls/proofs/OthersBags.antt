@@ -21,10 +21,10 @@ use Rattle.bus_words.proofs.LegalSteps.{AreWaiters, AreWaiters-after, kept-step,
 use Rattle.bus_words.proofs.Replay.{state_from-push}
 use Rattle.bus_words.proofs.UnsentBuffers.{AreUnsent-after}
 use Rattle.bus_words.proofs.UnsentSteps.{unsent-other}
-use Rattle.bus_store.specs.Bag.{HoldsViews, HoldsBuffers}
-use Rattle.bus_store.specs.Store.{LastLoan, BufferDesc}
+use Rattle.bus_messages.specs.Bag.{HoldsViews, HoldsBuffers}
+use Rattle.bus_messages.specs.Store.{LastLoan, BufferDesc}
 use Rattle.bus_words.specs.Pipes.{last_on}
-use Rattle.bus_store.specs.Words.{loan_of, desc_of}
+use Rattle.bus_messages.specs.Words.{loan_of, desc_of}
 use Rattle.sb_calls.specs.declared.results.Pended.{Pended}
 use Rattle.sb_calls.specs.declared.results.Pended.TheVariants as waits
 use Rattle.sb_calls.specs.Answers.{waited}

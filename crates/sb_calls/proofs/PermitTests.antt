@@ -9,8 +9,8 @@ use Rattle.journal_store.specs.Budgets.{allowance_of}
 use Rattle.bus_words.specs.Log.{left_of}
 use Rattle.bus_words.specs.Machine.{may_call}
 use Rattle.bus_words.proofs.Journals.{length-left_of}
-use Rattle.sb_plain.specs.Core.{is_within}
-use Rattle.sb_calls.specs.declared.bus_core.BusCore.TheInside.{Inside}
+use Rattle.bus_core.specs.Core.{is_within}
+use Rattle.sb_calls.specs.declared.journalled.BusCore.TheInside.{Inside}
 use Rattle.sb_calls.specs.Core.{Core, MayCall, state_of}
 use Rattle.sb_calls.specs.Inside.{core_of, Stands}
 use Rattle.sb_calls.proofs.EntryLemma.{bus_is}

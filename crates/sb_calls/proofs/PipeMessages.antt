@@ -17,10 +17,10 @@ use Rattle.bus_words.specs.Machine.{IsLegal, makes_entry, step}
 use Rattle.bus_words.proofs.Isolation.{gives_newest, stands_alone}
 use Rattle.bus_words.proofs.LegalSteps.{AreWaiters-after, legal-last}
 use Rattle.bus_words.specs.Pipes.{last_on}
-use Rattle.bus_store.specs.Words.{loan_of}
+use Rattle.bus_messages.specs.Words.{loan_of}
 use Rattle.sb_calls.specs.declared.results.Pended.{Pended}
 use Rattle.sb_calls.specs.declared.results.Pended.TheVariants as waits
-use Rattle.sb_plain.specs.Answers.{got}
+use Rattle.bus_core.specs.Answers.{got}
 use Rattle.sb_calls.specs.Answers.{pended}
 use Rattle.sb_calls.specs.Bags.{HasBag, loans_of, last_message}
 use Rattle.sb_calls.specs.Core.{Core, Does, Looks, GotAlone, StandAlone, IsLegalCore, apps_of, state_of}

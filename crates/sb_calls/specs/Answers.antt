@@ -1,5 +1,5 @@
 -- The answers of sends and receives, as entries of a history have them. Those of the other calls
--- are those of `sb_plain`.
+-- are those of `bus_core`.
 use Rattle.std.specs.Prelude.{Bool, true, false, Result, Ok, Err}
 use Rattle.fsw_base.specs.declared.statuses.SbStatus.{SbStatus}
 use Rattle.bus_words.specs.declared.calls.BusAnswer.{BusAnswer}

@@ -8,8 +8,8 @@ use Rattle.buf_desc.specs.Held.{Holding}
 use Rattle.bus_words.specs.declared.history.Entry.{Entry}
 use Rattle.bus_words.specs.Bus.{Item, State, owns}
 use Rattle.bus_words.specs.Held.{buffers_in}
-use Rattle.bus_store.specs.Bag.{HoldsViews, HoldsBuffers}
-use Rattle.bus_store.specs.Store.{LastLoan, BufferDesc}
+use Rattle.bus_messages.specs.Bag.{HoldsViews, HoldsBuffers}
+use Rattle.bus_messages.specs.Store.{LastLoan, BufferDesc}
 use Rattle.bus_words.specs.Pipes.{last_on}
 use Rattle.sb_calls.specs.Core.{Core, IsLegalCore, IsNoted, state_of}
 use Rattle.sb_calls.specs.Notes.{AreDue, noted, noted_desc}

@@ -18,7 +18,7 @@ use Rattle.bus_words.specs.Log.{Log, left_of, with_entry}
 use Rattle.sb_calls.specs.declared.results.Pended.{Pended}
 use Rattle.sb_calls.specs.declared.results.Pended.TheVariants.{Pending}
 use Rattle.sb_calls.specs.Answers.{waited}
-pub use Rattle.sb_plain.specs.Core.{is_within, drops_for}
+pub use Rattle.bus_core.specs.Core.{is_within, drops_for}
 use Rattle.bus_words.specs.Machine.{IsLegal, may_call, state_after, step}
 use Rattle.sb_calls.specs.Notes.{AreDue, note_due}
 use Rattle.sb_calls.specs.Views.{bytes_seen}

@@ -5,8 +5,8 @@ use Rattle.bus_words.specs.Held.{is_unsent}
 use Rattle.bus_words.specs.Log.{left_of}
 use Rattle.journal_store.specs.Budgets.{entries_left}
 use Rattle.bus_words.specs.Pipes.{last_on}
-use Rattle.bus_store.specs.Words.{loan_of, desc_of}
-use Rattle.sb_calls.specs.declared.bus_core.BusCore.TheInside.{Inside}
+use Rattle.bus_messages.specs.Words.{loan_of, desc_of}
+use Rattle.sb_calls.specs.declared.journalled.BusCore.TheInside.{Inside}
 use Rattle.sb_calls.specs.Core.{Core, IsLegalCore, IsNoted}
 use Rattle.sb_calls.specs.Notes.{noted, noted_desc}
 

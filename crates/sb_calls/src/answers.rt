@@ -1,6 +1,6 @@
 //! The answers of the calls, as the journal has them.
 ghost use Rattle.std.specs.Prelude.{◌≡◌};
-ghost use Rattle.sb_plain.specs.Answers.{numbered, named, done, got, pool_told, grant_back, figures_told, event_told};
+ghost use Rattle.bus_core.specs.Answers.{numbered, named, done, got, pool_told, grant_back, figures_told, event_told};
 ghost use Rattle.sb_calls.specs.Answers.{sent, pended};
 
 use crate::results::{Pended, Sent};

@@ -5,15 +5,15 @@ ghost use Rattle.std.specs.Prelude.{◌≡◌, ℕ, ◌+◌, ◌*◌, ◌<◌, �
 ghost use Rattle.buf_desc.specs.Held.{bytes_at};
 ghost use Rattle.ccsds_msg.specs.Message.{message_id};
 ghost use Rattle.bus_words.specs.Bus.{route};
-ghost use Rattle.sb_plain.specs.Answers.{numbered, done};
+ghost use Rattle.bus_core.specs.Answers.{numbered, done};
 ghost use Rattle.sb_calls.specs.Answers.{sent};
-ghost use Rattle.sb_plain.specs.Bags.{KeepsBuffers};
+ghost use Rattle.bus_core.specs.Bags.{KeepsBuffers};
 ghost use Rattle.sb_calls.specs.Bags.{HasBag, KeepsOtherBags};
 ghost use Rattle.sb_calls.specs.Core.{MayCall, Does, state_of};
-ghost use Rattle.sb_plain.specs.Core.{drops_for};
+ghost use Rattle.bus_core.specs.Core.{drops_for};
 
 use crate::answers::{of_done, of_number, of_sent};
-use crate::bus_core::BusCore;
+use crate::journalled::BusCore;
 use crate::noted::{bytes_of, note_of_buffer};
 use crate::results::Sent;
 use crate::short::{allocate, transmit_buffer};

@@ -9,10 +9,10 @@ ghost use Rattle.bus_words.specs.Machine.{statistics_after};
 ghost use Rattle.sb_calls.specs.Bags.{KeepsBags};
 ghost use Rattle.sb_calls.specs.Core.{MayCall, Does, apps_of, state_of};
 ghost use Rattle.sb_calls.specs.Answers.{sent};
-ghost use Rattle.sb_plain.specs.Core.{drops_for};
+ghost use Rattle.bus_core.specs.Core.{drops_for};
 
 use crate::answers::of_sent;
-use crate::bus_core::BusCore;
+use crate::journalled::BusCore;
 use crate::results::Sent;
 use crate::short::send_housekeeping;
 use bus_words::{BusAnswer, BusCall, BusEntry, Call, statistics_are_counted};

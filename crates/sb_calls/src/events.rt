@@ -5,10 +5,10 @@ ghost use Rattle.std.specs.Prelude.{◌≡◌};
 ghost use Rattle.bus_words.specs.Machine.{desk_after};
 ghost use Rattle.sb_calls.specs.Bags.{KeepsBags};
 ghost use Rattle.sb_calls.specs.Core.{MayCall, Does, apps_of, state_of};
-ghost use Rattle.sb_plain.specs.Answers.{event_told};
+ghost use Rattle.bus_core.specs.Answers.{event_told};
 
 use crate::answers::of_event;
-use crate::bus_core::BusCore;
+use crate::journalled::BusCore;
 use bus_words::{BusAnswer, BusCall, BusEntry, Call, events_are_told};
 use evs_events::EventDesk;
 use fsw_base::{AppNo, EventKind, EvsStatus, FilterList};

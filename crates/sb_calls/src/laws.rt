@@ -33,7 +33,7 @@ pub fn bags_stay()
     ensures written { (core : Core) (app number : ℕ) (bag : Holding LentBytes) (w : List ℕ) →
         HasBag core app bag → HasBag core app (with_bytes_at bag number w) }
 {
-    bus_store::recall_written();
+    bus_messages::recall_written();
 }
 
 /// A bus of version 1 drops no message of a full pipe: no pipe of it has option bit 0x02, whatever

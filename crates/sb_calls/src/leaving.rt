@@ -3,7 +3,7 @@ ghost use Rattle.std.specs.Prelude.{◌≡◌, []};
 ghost use Rattle.sb_calls.specs.Bags.{HasBag, KeepsOtherBags};
 ghost use Rattle.sb_calls.specs.Core.{MayCall, Does};
 
-use crate::bus_core::BusCore;
+use crate::journalled::BusCore;
 use buf_desc::Held;
 use bus_words::{BusAnswer, BusCall, BusEntry, Call};
 use fsw_base::AppNo;

@@ -66,7 +66,7 @@
 //! - `pool` shows the bus's pool: as many blocks of each size are out as numbers are held whose
 //!   block has that size (`account_of`), and its bytes in use are those of these blocks (`in_use`).
 //!   `desk` shows the blocks, one for each number held and no others, lent by the loans that were
-//!   noted (`AreBlocks` of `bus_store`). `recall_sends`: each item has one of the send numbers
+//!   noted (`AreBlocks` of `bus_messages`). `recall_sends`: each item has one of the send numbers
 //!   given, and two of one number have one message. `app_pools`, `app_pool` and `pools` show the
 //!   pools of applications.
 //! - `has_news`: whether a waiting application would be answered if it looked now.
@@ -86,9 +86,9 @@
 
 mod answers;
 mod buffers;
-mod bus_core;
 mod counters;
 mod events;
+mod journalled;
 mod laws;
 mod leaving;
 mod noted;
@@ -102,6 +102,6 @@ mod sending;
 mod short;
 mod subscribing;
 
-pub use bus_core::BusCore;
+pub use journalled::BusCore;
 pub use laws::{bags_stay, version_1_drops_nothing};
 pub use results::{Pended, Sent};

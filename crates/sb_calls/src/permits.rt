@@ -1,10 +1,10 @@
 //! Whether a call may be made now.
 ghost use Rattle.std.specs.Prelude.{◌≡◌, ◌↔◌, ◌&&◌, nat_le, IsTrue};
 ghost use Rattle.bus_words.specs.Entries.{call_of, call_bytes};
-ghost use Rattle.sb_plain.specs.Core.{is_within};
+ghost use Rattle.bus_core.specs.Core.{is_within};
 ghost use Rattle.sb_calls.specs.Core.{MayCall};
 
-use crate::bus_core::BusCore;
+use crate::journalled::BusCore;
 use bus_words::{Allowance, BusCall};
 use fsw_base::{AppNo, MAX_MESSAGE_BYTES, MAX_NAME_BYTES, MAX_TEXT_BYTES};
 

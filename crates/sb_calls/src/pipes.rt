@@ -3,10 +3,10 @@
 ghost use Rattle.std.specs.Prelude.{◌≡◌, OnErr};
 ghost use Rattle.sb_calls.specs.Bags.{HasBag, KeepsBags, KeepsOtherBags};
 ghost use Rattle.sb_calls.specs.Core.{MayCall, Does};
-ghost use Rattle.sb_plain.specs.Answers.{done, numbered, named};
+ghost use Rattle.bus_core.specs.Answers.{done, numbered, named};
 
 use crate::answers::{of_bits, of_done, of_named, of_number};
-use crate::bus_core::BusCore;
+use crate::journalled::BusCore;
 use buf_desc::Held;
 use bus_words::{BusCall, BusEntry, Call, PipeText};
 use fsw_base::{AppNo, SbStatus};

@@ -3,13 +3,13 @@
 //! call is the core's and one entry of the journal.
 ghost use Rattle.std.specs.Prelude.{◌≡◌, ◌+◌, ◌≤◌, length, IsTrue};
 ghost use Rattle.es_pool.specs.Account.{IsAccountOf};
-ghost use Rattle.pool_words.specs.Grants.{is_pool, pool_in, pool_account};
+ghost use Rattle.fsw_base.specs.Grants.{is_pool, pool_in, pool_account};
 ghost use Rattle.sb_calls.specs.Bags.{KeepsBags};
 ghost use Rattle.sb_calls.specs.Core.{MayCall, Does, state_of};
-ghost use Rattle.sb_plain.specs.Answers.{pool_told, grant_back, figures_told};
+ghost use Rattle.bus_core.specs.Answers.{pool_told, grant_back, figures_told};
 
 use crate::answers::{of_back, of_figures, of_pool};
-use crate::bus_core::BusCore;
+use crate::journalled::BusCore;
 use crate::short::pool_get;
 use app_pools::AppPools;
 use bus_words::{BusCall, BusEntry, Call};

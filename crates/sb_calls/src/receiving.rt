@@ -6,13 +6,13 @@ ghost use Rattle.bus_words.specs.declared.calls.BusAnswer.TheVariants.{Pending};
 ghost use Rattle.bus_words.specs.Bus.{standing_of, waited_on, owns};
 ghost use Rattle.sb_calls.specs.Answers.{pended};
 ghost use Rattle.bus_words.specs.Machine.{pended_answer};
-ghost use Rattle.sb_plain.specs.News.{has_news, is_waiting};
+ghost use Rattle.bus_core.specs.News.{has_news, is_waiting};
 ghost use Rattle.sb_calls.specs.Bags.{HasBag, KeepsOtherBags};
 ghost use Rattle.sb_calls.specs.Core.{MayCall, Does, Looks, GotAlone, state_of};
-ghost use Rattle.sb_plain.specs.Answers.{got};
+ghost use Rattle.bus_core.specs.Answers.{got};
 
 use crate::answers::{of_got, of_pended};
-use crate::bus_core::BusCore;
+use crate::journalled::BusCore;
 use crate::noted::note_of;
 use crate::results::Pended;
 use crate::short::{look, pend, receive};

@@ -5,10 +5,10 @@ ghost use Rattle.bus_words.specs.Bus.{route};
 ghost use Rattle.sb_calls.specs.Bags.{KeepsBags};
 ghost use Rattle.sb_calls.specs.Core.{MayCall, Does, state_of};
 ghost use Rattle.sb_calls.specs.Answers.{sent};
-ghost use Rattle.sb_plain.specs.Core.{drops_for};
+ghost use Rattle.bus_core.specs.Core.{drops_for};
 
 use crate::answers::of_sent;
-use crate::bus_core::BusCore;
+use crate::journalled::BusCore;
 use crate::results::Sent;
 use crate::short::transmit;
 use bus_words::{BusCall, BusEntry, Call};

@@ -4,23 +4,23 @@ ghost use Rattle.std.specs.Prelude.{◌≡◌, ℕ, ◌+◌, ◌*◌, ◌^◌, �
 ghost use Rattle.ccsds_msg.specs.Message.{message_id};
 ghost use Rattle.housekeeping.specs.Packet.{housekeeping_id};
 ghost use Rattle.buf_desc.specs.Held.{bytes_at};
-ghost use Rattle.pool_words.specs.Grants.{pool_in};
+ghost use Rattle.fsw_base.specs.Grants.{pool_in};
 ghost use Rattle.bus_words.specs.declared.history.Call.TheVariants.{Transmit, Receive, Pend, Look, Allocate, TransmitBuffer, PoolGet, Housekeeping};
 ghost use Rattle.bus_words.specs.Bus.{owns, route};
-ghost use Rattle.sb_plain.specs.Core.{MayAct, Acts, with_tick, drops_for};
-ghost use Rattle.sb_plain.specs.Answers.{numbered, got, pool_told};
-ghost use Rattle.sb_plain.specs.Bags.{HasBag, KeepsBags, KeepsBuffers, KeepsAllLoans, KeepsLoans, KeepsAllDescs, KeepsDescs};
+ghost use Rattle.bus_core.specs.Core.{MayAct, Acts, with_tick, drops_for};
+ghost use Rattle.bus_core.specs.Answers.{numbered, got, pool_told};
+ghost use Rattle.bus_core.specs.Bags.{HasBag, KeepsBags, KeepsBuffers, KeepsAllLoans, KeepsLoans, KeepsAllDescs, KeepsDescs};
 ghost use Rattle.sb_calls.specs.Answers.{sent, waited, pended};
 
 use crate::results::{Pended, Sent};
 use buf_desc::Held;
+use bus_core::PlainBus;
 use fsw_base::{AppNo, EsStatus, SbStatus};
 use housekeeping::CounterName;
-use sb_plain::PlainBus;
 use step_count::{Ledger, Steps};
 
 // What a send was answered, with its number in 32 bits.
-fn short_sent(sent: sb_plain::Sent) -> Sent
+fn short_sent(sent: bus_core::Sent) -> Sent
     requires { sent.number < 2 ^ 32 }
     ensures { result ≡ record { number = sent.number; reached = sent.reached } }
 {
@@ -189,9 +189,9 @@ pub(crate) fn pend<'r, L: Ledger>(
     ensures cost { steps.new ≤ steps.old + 32 }
 {
     match core.pend(app, pipe, held, steps) {
-        Ok(sb_plain::Pended::Got(number)) => Ok(Pended::Got(number as u32)),
-        Ok(sb_plain::Pended::TimeOut) => Ok(Pended::TimeOut),
-        Ok(sb_plain::Pended::Pending) => Ok(Pended::Pending),
+        Ok(bus_core::Pended::Got(number)) => Ok(Pended::Got(number as u32)),
+        Ok(bus_core::Pended::TimeOut) => Ok(Pended::TimeOut),
+        Ok(bus_core::Pended::Pending) => Ok(Pended::Pending),
         Err(status) => Err(status),
     }
 }
@@ -215,9 +215,9 @@ pub(crate) fn look<'r>(
     ensures buffers { held.new ≡ record held.old { views = held.new.views } }
 {
     match core.look(app, pipe, held) {
-        sb_plain::Pended::Got(number) => Pended::Got(number as u32),
-        sb_plain::Pended::TimeOut => Pended::TimeOut,
-        sb_plain::Pended::Pending => Pended::Pending,
+        bus_core::Pended::Got(number) => Pended::Got(number as u32),
+        bus_core::Pended::TimeOut => Pended::TimeOut,
+        bus_core::Pended::Pending => Pended::Pending,
     }
 }
 

@@ -4,10 +4,10 @@ ghost use Rattle.std.specs.Prelude.{◌+◌, ◌*◌, ◌≤◌, length};
 ghost use Rattle.bus_words.specs.Bus.{route};
 ghost use Rattle.sb_calls.specs.Bags.{KeepsBags};
 ghost use Rattle.sb_calls.specs.Core.{MayCall, Does, state_of};
-ghost use Rattle.sb_plain.specs.Answers.{done};
+ghost use Rattle.bus_core.specs.Answers.{done};
 
 use crate::answers::of_done;
-use crate::bus_core::BusCore;
+use crate::journalled::BusCore;
 use bus_words::{BusCall, BusEntry, Call};
 use fsw_base::{AppNo, SbStatus, Scope};
 use lend_block::Note;

@@ -3,8 +3,8 @@ use Rattle.std.proofs.Common.{◌≡◌, ℕ, Bool, true, false, cond, eqb, List
 use Rattle.std.specs.Option.{option_map, option_and_then}
 use Rattle.lend_block.specs.Loan.{LentBytes}
 use Rattle.tbl_words.specs.Tables.{Handle, Hold, handle_at}
-use Rattle.tbl_blocks.specs.Held.{HeldViews}
-use Rattle.tbl_plain.specs.Core.{loan_of}
+use Rattle.table_blocks.specs.Held.{HeldViews}
+use Rattle.table_core.specs.Core.{loan_of}
 use Rattle.tbl_load.specs.Bags.{HasBag, bytes_seen, held_bytes, loans_of}
 use Rattle.tbl_load.specs.Core.{Core, state_of}
 use Rattle.tbl_load.proofs.Dues.{due_by, viewed}

@@ -21,9 +21,9 @@ use Rattle.tbl_words.specs.Holds.{hold_of}
 use Rattle.tbl_words.specs.Log.{with_entry}
 use Rattle.tbl_words.specs.Tables.{Handle, Hold, handle_at}
 use Rattle.tbl_words.specs.Uses.{greater_of, use_of}
-use Rattle.tbl_blocks.specs.Held.{HeldViews, held_at}
-use Rattle.tbl_plain.specs.Answers.{registered, shared, figures_told, addressed, done}
-use Rattle.tbl_plain.specs.Core.{Plain, Acts, Holds, changes_bag, loan_of, view_due}
+use Rattle.table_blocks.specs.Held.{HeldViews, held_at}
+use Rattle.table_core.specs.Answers.{registered, shared, figures_told, addressed, done}
+use Rattle.table_core.specs.Core.{Plain, Acts, Holds, changes_bag, loan_of, view_due}
 use Rattle.tbl_load.specs.declared.tables.TblCore.TheInside.{Inside}
 use Rattle.tbl_load.specs.Inside.{Stands}
 use Rattle.tbl_load.specs.Notes.{NotedLog, IsDue, AreDue, gives_for, is_address, loan_in, note_due, note_seen}

@@ -4,9 +4,9 @@ use Rattle.std.specs.Option.{IsSomeAnd, option_map, option_and_then}
 use Rattle.tbl_words.specs.Holds.{hold_of}
 use Rattle.tbl_words.specs.Tables.{Handle, Hold, State, handle_at}
 use Rattle.tbl_words.proofs.Orders.{handles_rise}
-use Rattle.tbl_blocks.specs.Held.{HeldViews}
-use Rattle.tbl_plain.specs.Core as plain
-use Rattle.tbl_plain.specs.Core.{Holds, HoldsVersion, loan_of, view_due, views_due}
+use Rattle.table_blocks.specs.Held.{HeldViews}
+use Rattle.table_core.specs.Core as plain
+use Rattle.table_core.specs.Core.{Holds, HoldsVersion, loan_of, view_due, views_due}
 use Rattle.tbl_load.specs.declared.tables.TblCore.TheInside.{Inside}
 use Rattle.tbl_load.specs.Bags.{HasBag, KeepsBags, AreOneLoan, AreTwoLoans, lent_tables, loans_of}
 use Rattle.tbl_load.specs.Core.{Core, state_of}

@@ -7,8 +7,8 @@ use Rattle.std.proofs.lemmas.List.Sums.{sum_by-cons}
 use Rattle.lend_block.specs.Loan.{LentBytes}
 use Rattle.tbl_words.specs.Holds.{hold_of}
 use Rattle.tbl_words.specs.Tables.{Handle, Hold, handle_at}
-use Rattle.tbl_blocks.specs.Held.{HeldViews}
-use Rattle.tbl_plain.specs.Core.{Lent, Plain, Holds, loan_of, view_of, view_due}
+use Rattle.table_blocks.specs.Held.{HeldViews}
+use Rattle.table_core.specs.Core.{Lent, Plain, Holds, loan_of, view_of, view_due}
 use Rattle.tbl_load.proofs.OwnHandles.{Rise, owned, rise-head, rise-tail}
 
 -- the view of what is held, lent by this loan

@@ -18,7 +18,7 @@ use Rattle.tbl_words.specs.Uses.{greater_of, peak_after, use_of}
 use Rattle.tbl_words.proofs.Bounds.{few-after}
 use Rattle.tbl_words.proofs.Peaks.{peaks_go_on}
 use Rattle.tbl_words.proofs.Replay.{goes_on}
-use Rattle.tbl_plain.specs.Core.{Plain, MayAct, Acts, HasNextVersion, has_handle_number, loan_of}
+use Rattle.table_core.specs.Core.{Plain, MayAct, Acts, HasNextVersion, has_handle_number, loan_of}
 use Rattle.tbl_load.specs.declared.tables.TblCore.TheInside.{Inside}
 use Rattle.tbl_load.specs.Core.{Core, MayCall, Does, IsLegalCore, with_noted, state_of}
 use Rattle.tbl_load.specs.Inside.{core_of, Stands}

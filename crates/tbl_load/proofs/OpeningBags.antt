@@ -2,7 +2,7 @@
 use Rattle.std.proofs.Common.{◌≡◌, ℕ, ◌≤◌, List, [], length, ap, sym, subst}
 use Rattle.lend_block.specs.Loan.{LentBytes}
 use Rattle.tbl_words.specs.declared.history.Entry.{Entry}
-use Rattle.tbl_blocks.specs.Held.{HeldViews, held_at}
+use Rattle.table_blocks.specs.Held.{HeldViews, held_at}
 use Rattle.tbl_load.specs.Bags.{HasBag}
 use Rattle.tbl_load.specs.Core.{Core}
 

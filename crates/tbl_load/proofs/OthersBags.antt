@@ -12,8 +12,8 @@ use Rattle.tbl_words.specs.Tables.{Hold, State, opening}
 use Rattle.tbl_words.specs.Machine.{LegalFrom, may_call, state_from, step}
 use Rattle.tbl_words.proofs.Orders.{handles_rise}
 use Rattle.tbl_words.proofs.Replay.{state_from-push}
-use Rattle.tbl_blocks.specs.Held.{HeldViews}
-use Rattle.tbl_plain.specs.Core.{loan_of, view_due}
+use Rattle.table_blocks.specs.Held.{HeldViews}
+use Rattle.table_core.specs.Core.{loan_of, view_due}
 use Rattle.tbl_load.specs.Bags.{HasBag, KeepsOtherBags, CalledByOthers, lent_tables, loans_of}
 use Rattle.tbl_load.specs.Core.{Core, Does, IsLegalCore, IsNoted, with_noted, apps_of, state_of}
 use Rattle.tbl_load.specs.Notes.{gives_for, noted, note_due}

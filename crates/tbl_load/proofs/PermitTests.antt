@@ -8,7 +8,7 @@ use Rattle.tbl_words.specs.Entries.{call_bytes}
 use Rattle.tbl_words.specs.Log.{left_of}
 use Rattle.tbl_words.specs.Machine.{may_call}
 use Rattle.tbl_words.specs.Tables.{State}
-use Rattle.tbl_plain.specs.Core.{is_within}
+use Rattle.table_core.specs.Core.{is_within}
 use Rattle.tbl_load.specs.declared.tables.TblCore.TheInside.{Inside}
 use Rattle.tbl_load.specs.Core.{Core, MayCall, state_of}
 use Rattle.tbl_load.specs.Inside.{core_of, Stands}

@@ -4,9 +4,9 @@ use Rattle.std.specs.Option.{IsSomeAnd, option_map, option_and_then}
 use Rattle.es_pool.specs.Pool.{PoolState}
 use Rattle.tbl_words.specs.Holds.{hold_of}
 use Rattle.tbl_words.specs.Tables.{Handle, Hold, State, handle_at}
-use Rattle.tbl_blocks.specs.Blocks.{Stored}
-use Rattle.tbl_plain.specs.Blocks.{AreTableBlocks, IsTablePool}
-use Rattle.tbl_plain.specs.Core.{HoldsVersion, loan_of}
+use Rattle.table_blocks.specs.Blocks.{Stored}
+use Rattle.table_core.specs.Blocks.{AreTableBlocks, IsTablePool}
+use Rattle.table_core.specs.Core.{HoldsVersion, loan_of}
 use Rattle.tbl_load.specs.declared.tables.TblCore.TheInside.{Inside}
 use Rattle.tbl_load.specs.Bags.{lent_tables, loans_of}
 use Rattle.tbl_load.specs.Core.{state_of}

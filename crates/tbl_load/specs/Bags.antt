@@ -5,8 +5,8 @@ use Rattle.std.specs.Option.{option_map, option_and_then}
 use Rattle.lend_block.specs.declared.note.Note.{Note}
 use Rattle.tbl_words.specs.declared.history.Entry.{Entry}
 use Rattle.tbl_words.specs.Tables.{State, handle_at}
-use Rattle.tbl_blocks.specs.Held.{HeldViews, held_at}
-use Rattle.tbl_plain.specs.Core.{Lent, Plain, Holds, HoldsVersion}
+use Rattle.table_blocks.specs.Held.{HeldViews, held_at}
+use Rattle.table_core.specs.Core.{Lent, Plain, Holds, HoldsVersion}
 use Rattle.tbl_load.specs.Core.{Core, IsLegalCore, IsNoted, state_of}
 use Rattle.tbl_load.specs.Notes.{AreDue, noted}
 

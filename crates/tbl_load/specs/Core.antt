@@ -11,7 +11,7 @@ use Rattle.tbl_words.specs.Entries.{call_bytes}
 use Rattle.tbl_words.specs.Log.{Log, left_of, with_entry}
 use Rattle.tbl_words.specs.Tables.{State}
 use Rattle.tbl_words.specs.Machine.{IsLegal, may_call, state_after, step}
-use Rattle.tbl_plain.specs.Core.{is_within}
+use Rattle.table_core.specs.Core.{is_within}
 use Rattle.tbl_load.specs.Notes.{AreDue, note_due}
 
 pub record Core : Type 0 where

@@ -5,7 +5,7 @@ use Rattle.tbl_words.specs.Log.{left_of}
 use Rattle.tbl_words.specs.Holds.{hold_of}
 use Rattle.tbl_words.specs.Machine.{state_after}
 use Rattle.tbl_words.specs.Uses.{peak_after}
-use Rattle.tbl_plain.specs.Core.{loan_of}
+use Rattle.table_core.specs.Core.{loan_of}
 use Rattle.tbl_load.specs.declared.tables.TblCore.TheInside.{Inside}
 use Rattle.tbl_load.specs.Core.{Core, IsLegalCore}
 use Rattle.tbl_load.specs.Notes.{noted}

@@ -1,6 +1,6 @@
 //! The answers of the calls, as the journal has them.
 ghost use Rattle.std.specs.Prelude.{◌≡◌};
-ghost use Rattle.tbl_plain.specs.Answers.{registered, shared, figures_told, addressed, done};
+ghost use Rattle.table_core.specs.Answers.{registered, shared, figures_told, addressed, done};
 
 use tbl_words::{Address, Registered, TblAnswer, TblState, TblStatus};
 

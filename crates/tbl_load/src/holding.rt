@@ -2,8 +2,8 @@
 //! was given.
 ghost use Rattle.std.specs.Prelude.{◌≡◌, ℕ, ◌==◌, false, OnErr};
 ghost use Rattle.tbl_words.specs.declared.history.Call.TheVariants.{GetAddress, ReleaseAddress};
-ghost use Rattle.tbl_blocks.specs.Held.{held_at};
-ghost use Rattle.tbl_plain.specs.Answers.{addressed, done};
+ghost use Rattle.table_blocks.specs.Held.{held_at};
+ghost use Rattle.table_core.specs.Answers.{addressed, done};
 ghost use Rattle.tbl_load.specs.Bags.{HasBag, KeepsOtherBags};
 ghost use Rattle.tbl_load.specs.Core.{MayCall, Does};
 
@@ -13,7 +13,7 @@ use crate::short::get_address;
 use crate::tables::TblCore;
 use fsw_base::AppNo;
 use lend_block::Note;
-use tbl_blocks::HeldTables;
+use table_blocks::HeldTables;
 use tbl_words::{Address, TblCall, TblEntry, TblStatus};
 
 impl<'r> TblCore<'r> {

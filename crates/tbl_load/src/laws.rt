@@ -3,7 +3,7 @@ ghost use Rattle.std.specs.Prelude.{◌≡◌, ◌≢◌, ◌≤◌, ℕ, []};
 ghost use Rattle.fsw_base.specs.Limits.{Limits};
 ghost use Rattle.tbl_words.specs.declared.calls.TblAnswer.{TblAnswer};
 ghost use Rattle.tbl_words.specs.declared.history.Call.{Call};
-ghost use Rattle.tbl_blocks.specs.Held.{HeldViews};
+ghost use Rattle.table_blocks.specs.Held.{HeldViews};
 ghost use Rattle.tbl_load.specs.Bags.{HasBag, KeepsOtherBags, CalledByOthers, bytes_seen, held_bytes};
 ghost use Rattle.tbl_load.specs.Core.{Core, Does, state_of};
 

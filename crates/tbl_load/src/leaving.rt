@@ -2,8 +2,8 @@
 ghost use Rattle.std.specs.Prelude.{◌≡◌, ℕ, ◌==◌, ◌+◌, ◌*◌, ◌≤◌, false, [], OnErr, count_by};
 ghost use Rattle.tbl_words.specs.declared.history.Call.TheVariants.{Unregister, End};
 ghost use Rattle.tbl_words.specs.declared.calls.TblAnswer.TheVariants.{Done};
-ghost use Rattle.tbl_blocks.specs.Held.{held_at};
-ghost use Rattle.tbl_plain.specs.Answers.{done};
+ghost use Rattle.table_blocks.specs.Held.{held_at};
+ghost use Rattle.table_core.specs.Answers.{done};
 ghost use Rattle.tbl_load.specs.Bags.{HasBag, KeepsOtherBags};
 ghost use Rattle.tbl_load.specs.Core.{MayCall, Does, state_of};
 
@@ -12,7 +12,7 @@ use crate::tables::TblCore;
 use fsw_base::AppNo;
 use lend_block::Note;
 use step_count::{Ledger, Steps};
-use tbl_blocks::HeldTables;
+use table_blocks::HeldTables;
 use tbl_words::{TblAnswer, TblCall, TblEntry, TblStatus};
 
 impl<'r> TblCore<'r> {

@@ -72,6 +72,6 @@ mod short;
 mod tables;
 
 pub use laws::bags_stay;
+pub use table_blocks::HeldTables;
 pub use tables::TblCore;
-pub use tbl_blocks::HeldTables;
 pub use tbl_words::{Address, Registered, TblState, TblStatus, TblUse};

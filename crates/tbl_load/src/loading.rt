@@ -1,7 +1,7 @@
 //! Loads: a value is staged, validated and made the table's.
 ghost use Rattle.std.specs.Prelude.{◌≡◌};
 ghost use Rattle.tbl_words.specs.declared.history.Call.TheVariants.{Stage, Validate, Update, Abort, Load};
-ghost use Rattle.tbl_plain.specs.Answers.{done};
+ghost use Rattle.table_core.specs.Answers.{done};
 ghost use Rattle.tbl_load.specs.Bags.{KeepsBags};
 ghost use Rattle.tbl_load.specs.Core.{MayCall, Does};
 

@@ -5,7 +5,7 @@ ghost use Rattle.tbl_words.specs.declared.history.Entry.{Entry};
 ghost use Rattle.tbl_words.specs.Entries.{call_of, call_bytes, entry_of};
 ghost use Rattle.tbl_words.specs.Log.{left_of, with_entry};
 ghost use Rattle.tbl_words.specs.Uses.{greater_of};
-ghost use Rattle.tbl_blocks.specs.Held.{held_at};
+ghost use Rattle.table_blocks.specs.Held.{held_at};
 ghost use Rattle.tbl_load.specs.Notes.{IsDue, AreDue, note_seen};
 
 use crate::opening::total_entries;
@@ -13,7 +13,7 @@ use fsw_base::Budget;
 use lend_block::Note;
 use std::alloc::{AllocError, Global};
 use std::marker::Model;
-use tbl_blocks::HeldTables;
+use table_blocks::HeldTables;
 use tbl_words::{TblAnswer, TblEntry, TblJournal, TblUse};
 
 /// Every call with its answer, what was noted of it, and the greatest numbers that were in use

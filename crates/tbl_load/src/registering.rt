@@ -2,7 +2,7 @@
 //! with its answer.
 ghost use Rattle.std.specs.Prelude.{◌≡◌, ◌+◌, ◌≤◌};
 ghost use Rattle.tbl_words.specs.declared.history.Call.TheVariants.{Register, Share, Status};
-ghost use Rattle.tbl_plain.specs.Answers.{registered, shared, figures_told};
+ghost use Rattle.table_core.specs.Answers.{registered, shared, figures_told};
 ghost use Rattle.tbl_load.specs.Bags.{KeepsBags};
 ghost use Rattle.tbl_load.specs.Core.{MayCall, Does};
 

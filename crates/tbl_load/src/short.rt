@@ -2,13 +2,13 @@
 //! below 2^32, so no table of a journal has more versions.
 ghost use Rattle.std.specs.Prelude.{◌≡◌, ℕ, ◌==◌, ◌+◌, ◌^◌, ◌<◌, false, All, OnOk, OnErr, IsSome};
 ghost use Rattle.tbl_words.specs.declared.history.Call.TheVariants.{GetAddress, Status};
-ghost use Rattle.tbl_blocks.specs.Held.{held_at};
-ghost use Rattle.tbl_plain.specs.Answers.{addressed, figures_told};
-ghost use Rattle.tbl_plain.specs.Core.{Holds, MayAct, Acts};
+ghost use Rattle.table_blocks.specs.Held.{held_at};
+ghost use Rattle.table_core.specs.Answers.{addressed, figures_told};
+ghost use Rattle.table_core.specs.Core.{Holds, MayAct, Acts};
 
 use fsw_base::AppNo;
-use tbl_blocks::HeldTables;
-use tbl_plain::PlainTables;
+use table_blocks::HeldTables;
+use table_core::PlainTables;
 use tbl_words::{Address, TblState, TblStatus};
 
 /// `PlainTables::get_address`.

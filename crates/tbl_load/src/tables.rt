@@ -8,7 +8,7 @@ ghost use Rattle.tbl_words.specs.declared.history.Entry.{Entry};
 ghost use Rattle.tbl_words.specs.Log.{left_of};
 ghost use Rattle.tbl_words.specs.Tables.{account_of, bytes_in_use};
 ghost use Rattle.tbl_words.specs.Uses.{use_of, peak_after};
-ghost use Rattle.tbl_plain.specs.Blocks.{AreTableBlocks, IsTablePool};
+ghost use Rattle.table_core.specs.Blocks.{AreTableBlocks, IsTablePool};
 ghost use Rattle.tbl_load.specs.Bags.{AreOneLoan, AreTwoLoans, lent_tables};
 ghost use Rattle.tbl_load.specs.Core.{IsLegalCore, IsNoted, apps_of, state_of};
 ghost use Rattle.tbl_load.specs.Notes.{IsDue};
@@ -19,8 +19,8 @@ use fsw_base::{AppNo, Budget, Config};
 use lend_block::Note;
 use std::alloc::{AllocError, Global};
 use std::marker::Model;
-use tbl_blocks::TableBlocks;
-use tbl_plain::PlainTables;
+use table_blocks::TableBlocks;
+use table_core::PlainTables;
 use tbl_words::{TblJournal, TblUse};
 
 /// The tables of up to 16 applications, with their journal. By the code, all its memory is taken

@@ -9,8 +9,8 @@ use Rattle.tbl_words.specs.Tables.{Handle, Hold, State, opening, handle_at}
 use Rattle.tbl_words.specs.Machine.{state_after}
 use Rattle.tbl_words.proofs.Orders.{handles_rise}
 use Rattle.tbl_words.proofs.Replay.{state_from-push}
-use Rattle.tbl_blocks.specs.Held.{HeldViews, held_at}
-use Rattle.tbl_plain.specs.Core.{Lent, view_of}
+use Rattle.table_blocks.specs.Held.{HeldViews, held_at}
+use Rattle.table_core.specs.Core.{Lent, view_of}
 use Rattle.tbl_load.specs.Bags.{HasBag, loans_of}
 use Rattle.tbl_load.specs.Core.{Core, state_of, apps_of}
 use Rattle.tbl_load.proofs.OwnHandles.{owned, step_alone}

@@ -7,7 +7,7 @@ use Rattle.tbl_words.specs.declared.history.Call.{Call}
 use Rattle.tbl_words.specs.declared.history.Call.TheVariants.{End}
 use Rattle.tbl_words.specs.Entries.{call_bytes}
 use Rattle.tbl_words.specs.Log.{left_of}
-use Rattle.tbl_plain.specs.Core.{is_within}
+use Rattle.table_core.specs.Core.{is_within}
 use Rattle.tbl_load.specs.Core.{Core, MayCall}
 
 -- three tests that hold

@@ -7,7 +7,7 @@ use Rattle.lend_block.specs.contracts.name.LoanName as name
 use Rattle.lend_block.specs.contracts.note.Note as note
 use Rattle.tbl_words.proofs.journal.TblJournal.TheSendSync as journal
 use Rattle.tbl_words.proofs.uses.TblUse.TheSendSync as uses
-use Rattle.tbl_plain.proofs.plain.PlainTables.TheSendSync as plain
+use Rattle.table_core.proofs.plain.PlainTables.TheSendSync as plain
 use Rattle.tbl_load.specs.contracts.noted.NotedJournal as noted
 use Rattle.tbl_load.specs.contracts.tables.TblCore as core
 use Rattle.tbl_service.specs.contracts.tables.Tables as tables

@@ -2,7 +2,7 @@
 use Rattle.tbl_words.specs.declared.calls.TblAnswer.{TblAnswer}
 use Rattle.tbl_words.specs.declared.history.Call.{Call}
 use Rattle.tbl_words.specs.declared.history.Entry.{Entry}
-use Rattle.tbl_blocks.specs.Held.{HeldViews}
+use Rattle.table_blocks.specs.Held.{HeldViews}
 use Rattle.tbl_load.specs.Bags.{HasBag}
 use Rattle.tbl_load.specs.Core.{Core}
 use Rattle.core_port.specs.Ports as ports

@@ -1,6 +1,6 @@
 -- What contracts see of a port.
 use Rattle.tbl_words.specs.declared.history.Entry.{Entry}
-use Rattle.tbl_blocks.specs.Held.{HeldViews}
+use Rattle.table_blocks.specs.Held.{HeldViews}
 use Rattle.tbl_load.specs.Core.{Core}
 use Rattle.core_port.specs.Ports as ports
 use Rattle.tbl_service.specs.Ports.{PortView}

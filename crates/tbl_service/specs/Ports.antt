@@ -7,7 +7,7 @@ use Rattle.tbl_words.specs.declared.calls.TblAnswer.{TblAnswer}
 use Rattle.tbl_words.specs.declared.history.Call.{Call}
 use Rattle.tbl_words.specs.declared.history.Entry.{Entry}
 use Rattle.tbl_words.specs.Log.{left_of}
-use Rattle.tbl_blocks.specs.Held.{HeldViews, held_at}
+use Rattle.table_blocks.specs.Held.{HeldViews, held_at}
 use Rattle.tbl_load.specs.Core.{Core, Does}
 use Rattle.tbl_load.specs.Bags.{HasBag, CalledByOthers, AreOneLoan}
 use Rattle.core_port.specs.Ports as ports

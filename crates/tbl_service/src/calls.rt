@@ -1,7 +1,7 @@
 //! What the calls of all ports have in common.
 ghost use Rattle.tbl_words.specs.declared.calls.TblAnswer.{TblAnswer};
 ghost use Rattle.tbl_words.specs.declared.history.Call.{Call};
-ghost use Rattle.tbl_blocks.specs.Held.{HeldViews};
+ghost use Rattle.table_blocks.specs.Held.{HeldViews};
 ghost use Rattle.tbl_load.specs.Bags.{HasBag};
 ghost use Rattle.tbl_load.specs.Core.{MayCall, Does};
 

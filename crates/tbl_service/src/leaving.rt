@@ -2,7 +2,7 @@
 ghost use Rattle.std.specs.Prelude.{◌≡◌, true, [], OnErr};
 ghost use Rattle.tbl_words.specs.declared.history.Call.TheVariants as made;
 ghost use Rattle.tbl_words.specs.declared.calls.TblAnswer.TheVariants.{Done};
-ghost use Rattle.tbl_plain.specs.Answers.{done};
+ghost use Rattle.table_core.specs.Answers.{done};
 ghost use Rattle.tbl_words.specs.Tables.{has_ended};
 ghost use Rattle.tbl_load.specs.Core.{MayCall, state_of};
 ghost use Rattle.tbl_service.specs.Ports.{Answers, KeepsOthers};

@@ -1,7 +1,7 @@
 //! Loads of tables, by ports.
 ghost use Rattle.std.specs.Prelude.{◌≡◌};
 ghost use Rattle.tbl_words.specs.declared.history.Call.TheVariants as made;
-ghost use Rattle.tbl_plain.specs.Answers.{done};
+ghost use Rattle.table_core.specs.Answers.{done};
 ghost use Rattle.tbl_load.specs.Core.{MayCall};
 ghost use Rattle.tbl_service.specs.Ports.{Answers};
 

@@ -1,7 +1,7 @@
 //! Whether a call may be made now, as a port tells it.
 ghost use Rattle.std.specs.Prelude.{◌≡◌, ◌↔◌, ◌&&◌, nat_le, IsTrue};
 ghost use Rattle.tbl_words.specs.Entries.{call_of, call_bytes};
-ghost use Rattle.tbl_plain.specs.Core.{is_within, is_range};
+ghost use Rattle.table_core.specs.Core.{is_within, is_range};
 ghost use Rattle.tbl_load.specs.Core.{MayCall};
 
 use crate::ports::TblPort;

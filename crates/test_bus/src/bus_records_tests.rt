@@ -2,10 +2,10 @@
 //! executable model of the bus.
 ghost use Rattle.std.specs.Prelude.{◌≡◌};
 ghost use Rattle.bus_events.specs.declared.event.ServiceEvent.{ServiceEvent};
-ghost use Rattle.bus_records.specs.Records.{told_event};
+ghost use Rattle.bus_counts.specs.Records.{told_event};
 
+use bus_counts::Records;
 use bus_events::ServiceEvent;
-use bus_records::Records;
 use bus_words::{Miss, MissCause};
 use evs_events::EventDesk;
 use fsw_base::AppNo;

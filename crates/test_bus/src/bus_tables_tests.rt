@@ -1,9 +1,9 @@
 //! The caller that the crate's head shows, a run of it, and a run of the other calls.
 ghost use Rattle.std.specs.Prelude.{◌≡◌, ◌<◌, ◌≤◌, Some};
 ghost use Rattle.fsw_base.specs.Limits.{usual_limits};
-ghost use Rattle.bus_tables.specs.Tables.{opened};
+ghost use Rattle.bus_routes.specs.Tables.{opened};
 
-use bus_tables::{BusTables, ItemRow, Message, Misses, RouteNo};
+use bus_routes::{BusTables, ItemRow, Message, Misses, RouteNo};
 use bus_words::{Miss, MissCause, PipeText};
 use fsw_base::{AppNo, Config, Scope};
 use std::marker::Brand;

@@ -1,6 +1,6 @@
 //! The caller that the crate's head shows, and worked answers.
 ghost use Rattle.std.specs.Prelude.{◌≡◌, ◌+◌, ◌<◌, ◌≤◌, IsTrue};
-ghost use Rattle.pool_words.specs.Grants.{has_numbers};
+ghost use Rattle.fsw_base.specs.Grants.{has_numbers};
 
 use app_pools::AppPools;
 use es_pool::ClassStats;

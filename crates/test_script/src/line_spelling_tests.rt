@@ -1,7 +1,7 @@
 //! Printed lines.
 use fsw_base::{EventKind, FilterList, MemSink, Scope, SinkGuard};
-use line_spelling::print_line;
 use script_lines::{ByteText, Line};
+use script_text::print_line;
 use std::test::Fail;
 use text_page::{Page, finish, put};
 

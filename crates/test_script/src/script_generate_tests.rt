@@ -1,7 +1,6 @@
 //! Generated scripts printed: texts of a model that was written apart from `script_generate`.
 use fsw_base::{MemSink, SinkGuard};
-use script_generate::generate;
-use script_printing::print_script;
+use script_text::{generate, print_script};
 use std::test::Fail;
 
 #[test]

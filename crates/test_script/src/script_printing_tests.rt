@@ -1,7 +1,7 @@
 //! A script printed in its one spelling, which prints the same again.
 use app_script::read_script;
 use fsw_base::{MemSink, SinkGuard};
-use script_printing::print_script;
+use script_text::print_script;
 use std::test::Fail;
 
 #[test]

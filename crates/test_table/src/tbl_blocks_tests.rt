@@ -1,12 +1,12 @@
 //! Tables that are opened, loaded, held and closed.
 ghost use Rattle.std.specs.Prelude.{◌≡◌, ◌<◌, ◌≤◌, false, length, IfOk};
-ghost use Rattle.tbl_blocks.specs.Contents.{is_open};
+ghost use Rattle.table_blocks.specs.Contents.{is_open};
 
 use fsw_base::{BlockSizes, EsStatus};
 use std::marker::Brand;
 use std::test::Fail;
 use step_count::{Blank, Ledger, Steps};
-use tbl_blocks::{HeldTables, TableBlocks};
+use table_blocks::{HeldTables, TableBlocks};
 
 /// The caller that the crate's front page shows.
 fn held_through_a_load<L: Ledger>(

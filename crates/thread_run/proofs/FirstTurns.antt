@@ -6,7 +6,7 @@ use Rattle.lend_block.specs.Loan.{LentBytes}
 use Rattle.buf_desc.specs.Held.{Holding}
 use Rattle.sb_calls.specs.Bags.{HasBag}
 use Rattle.sb_calls.specs.Core.{Core}
-use Rattle.tbl_blocks.specs.Held.{HeldViews}
+use Rattle.table_blocks.specs.Held.{HeldViews}
 use Rattle.tbl_load.specs.Bags.{HasBag as HasTableBag}
 use Rattle.tbl_load.specs.Core.{Core as TableCore}
 use Rattle.bus_service.specs.Ports.{PortView, MainView, buffers_for}

@@ -11,7 +11,7 @@ use Rattle.sb_calls.specs.Bags.{HasBag, CalledByOthers}
 use Rattle.sb_calls.specs.Core.{Core, IsLegalCore, apps_of, state_of}
 use Rattle.tbl_words.specs.declared.history.Entry.{Entry as TableEntry}
 use Rattle.tbl_words.specs.Machine.{IsLegal as IsLegalAtTables, state_after as tables_after}
-use Rattle.tbl_blocks.specs.Held.{HeldViews}
+use Rattle.table_blocks.specs.Held.{HeldViews}
 use Rattle.tbl_load.specs.Bags.{HasBag as HasTableBag, CalledByOthers as CalledByOthersAtTables}
 use Rattle.tbl_load.specs.Core.{Core as TableCore, IsLegalCore as AreLegalTables, apps_of as table_apps_of}
 use Rattle.app_script.specs.Script.{ScriptText, app_at}

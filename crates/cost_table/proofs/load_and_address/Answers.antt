@@ -1,6 +1,6 @@
 use Rattle.std.proofs.Common.{ap, arith}
 use Rattle.fsw_base.specs.Limits.{Limits}
-use Rattle.tbl_blocks.specs.Held.{HeldViews}
+use Rattle.table_blocks.specs.Held.{HeldViews}
 use Rattle.cost_table.proofs.load_and_address.Goals as goal
 
 pub address_all-requires : goal.address_all-requires

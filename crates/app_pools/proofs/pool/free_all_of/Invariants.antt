@@ -1,5 +1,5 @@
 use Rattle.std.proofs.Common.{◌+◌, ◌*◌, ◌≤◌, drop, map}
-use Rattle.pool_words.specs.Grants.{held_by}
+use Rattle.fsw_base.specs.Grants.{held_by}
 use Rattle.app_pools.specs.Inside.{grant_of, AreLent, AreGivenBack}
 use Rattle.app_pools.proofs.pool.free_all_of.Given as goal
 

@@ -2,7 +2,7 @@
 use Rattle.std.proofs.Common.{set, ap, ◌∙◌, arith}
 use Rattle.std.proofs.lemmas.List.{length-set}
 use Rattle.std.proofs.lemmas.List.Edits.{map_over_more}
-use Rattle.pool_words.specs.Grants.{after_end}
+use Rattle.fsw_base.specs.Grants.{after_end}
 use Rattle.app_pools.proofs.Places.{cost_more}
 use Rattle.app_pools.proofs.pools.end_all.Goals as goal
 

@@ -1,5 +1,5 @@
 use Rattle.std.proofs.Common.{◌≡◌, ◌+◌, ◌*◌, ◌≤◌, ◌++◌, map, take, drop, length, sum_by}
-use Rattle.pool_words.specs.Grants.{after_end, held_by}
+use Rattle.fsw_base.specs.Grants.{after_end, held_by}
 use Rattle.app_pools.proofs.pools.end_all.Given as goal
 
 abbrev pub invariant-loop-place : goal.invariant-loop-place

@@ -1,5 +1,5 @@
 use Rattle.std.proofs.Common.{◌≡◌, replicate, vec_capacity}
-use Rattle.pool_words.specs.Grants.{new_pool}
+use Rattle.fsw_base.specs.Grants.{new_pool}
 use Rattle.app_pools.proofs.pools.unused_pools.Given as goal
 
 -- as many pools as were counted

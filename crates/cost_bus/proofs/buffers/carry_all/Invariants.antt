@@ -1,5 +1,5 @@
 -- One buffer for each round so far.
-use Rattle.sb_plain.specs.Bags.{HasBag}
+use Rattle.bus_core.specs.Bags.{HasBag}
 use Rattle.cost_bus.specs.Calls.{Made}
 use Rattle.cost_bus.proofs.buffers.carry_all.Given as goal
 

@@ -1,6 +1,6 @@
 -- The calls of the rounds that are left.
 use Rattle.std.proofs.Common.{◌*◌, ◌-◌}
-use Rattle.tbl_plain.specs.Core.{Holds}
+use Rattle.table_core.specs.Core.{Holds}
 use Rattle.cost_bus.specs.TableCalls.{MayCallTables}
 use Rattle.cost_bus.proofs.loads.read_all.Given as goal
 

@@ -1,6 +1,6 @@
 -- Two calls for each pipe so far.
 use Rattle.std.proofs.Common.{◌+◌}
-use Rattle.sb_plain.specs.Bags.{KeepsBags}
+use Rattle.bus_core.specs.Bags.{KeepsBags}
 use Rattle.cost_bus.specs.Calls.{Made}
 use Rattle.cost_bus.proofs.pipes.open.Given as goal
 

@@ -1,6 +1,6 @@
 -- One send for each turn so far.
 use Rattle.std.proofs.Common.{◌≡◌, length}
-use Rattle.sb_plain.specs.Bags.{HasBag}
+use Rattle.bus_core.specs.Bags.{HasBag}
 use Rattle.cost_bus.specs.Calls.{Made}
 use Rattle.cost_bus.proofs.turns.carry_all.Given as goal
 

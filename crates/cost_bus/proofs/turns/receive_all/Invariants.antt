@@ -1,6 +1,6 @@
 -- A receive takes no number.
 use Rattle.std.proofs.Common.{◌≤◌}
-use Rattle.sb_plain.specs.Bags.{HasBag}
+use Rattle.bus_core.specs.Bags.{HasBag}
 use Rattle.cost_bus.specs.Calls.{Made}
 use Rattle.cost_bus.proofs.turns.receive_all.Given as goal
 

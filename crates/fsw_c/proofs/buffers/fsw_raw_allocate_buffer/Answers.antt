@@ -1,9 +1,9 @@
 use Rattle.std.proofs.Common.{◌≡◌, ℕ, Some, refl, ap, sym, ◌∙◌, subst}
 use Rattle.bus_words.specs.declared.calls.BusAnswer.TheVariants.{Number}
 use Rattle.bus_words.specs.declared.history.Call.TheVariants.{Allocate}
-use Rattle.sb_plain.specs.Core.{Acts}
-use Rattle.sb_box.specs.Box.{bag_of}
-use Rattle.sb_box.specs.Lent.{Lent, IsGivenOut}
+use Rattle.bus_core.specs.Core.{Acts}
+use Rattle.checked_bus.specs.Box.{bag_of}
+use Rattle.checked_bus.specs.Lent.{Lent, IsGivenOut}
 use Rattle.fsw_core.specs.declared.Core.{Core}
 use Rattle.fsw_c.specs.Buffers.{buffer_of}
 use Rattle.fsw_c.specs.Lent.{one_of}

@@ -1,7 +1,7 @@
 use Rattle.std.proofs.Common.{◌≡◌, Some, refl, ap, sym, ◌∙◌}
 use Rattle.fsw_c.specs.Buffers.{buffer_of}
-use Rattle.sb_box.specs.Box.{bag_of}
-use Rattle.sb_box.specs.Lent.{no_buffer, StaysOut}
+use Rattle.checked_bus.specs.Box.{bag_of}
+use Rattle.checked_bus.specs.Lent.{no_buffer, StaysOut}
 use Rattle.fsw_c.proofs.BufferSteps.{called_transmit, accepted, refused, stays_same, stays_one, one_same, gone_one}
 use Rattle.fsw_c.proofs.buffers.fsw_raw_transmit_buffer.Goals as goal
 

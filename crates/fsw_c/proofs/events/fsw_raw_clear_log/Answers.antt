@@ -1,7 +1,7 @@
 use Rattle.std.proofs.Common.{Some, refl, ap, sym, ◌∙◌}
 use Rattle.bus_words.specs.declared.history.Call.TheVariants.{ClearLog}
 use Rattle.bus_words.specs.declared.calls.BusAnswer.TheVariants.{Done}
-use Rattle.sb_box.specs.Asked.{unasked}
+use Rattle.checked_bus.specs.Asked.{unasked}
 use Rattle.fsw_c.proofs.BusSteps.{called-plain, always}
 use Rattle.fsw_c.proofs.events.fsw_raw_clear_log.Goals as goal
 

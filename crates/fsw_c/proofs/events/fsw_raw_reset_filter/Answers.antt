@@ -1,7 +1,7 @@
 use Rattle.std.proofs.Common.{Some, refl, ap, sym, ◌∙◌}
 use Rattle.bus_words.specs.declared.history.Call.TheVariants.{ResetFilter}
-use Rattle.sb_plain.specs.Answers.{event_told}
-use Rattle.sb_box.specs.Asked.{unasked}
+use Rattle.bus_core.specs.Answers.{event_told}
+use Rattle.checked_bus.specs.Asked.{unasked}
 use Rattle.fsw_c.specs.BusCodes.{evs_code}
 use Rattle.fsw_c.proofs.BusSteps.{called, event_told-form, always}
 use Rattle.fsw_c.proofs.events.fsw_raw_reset_filter.Goals as goal

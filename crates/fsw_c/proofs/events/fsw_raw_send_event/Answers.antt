@@ -1,9 +1,9 @@
 use Rattle.std.proofs.Common.{Some, refl, ap, sym, ◌∙◌}
 use Rattle.fsw_base.specs.declared.events.EventKind.TheVariants.{Debug}
 use Rattle.bus_words.specs.declared.history.Call.TheVariants.{SendEvent}
-use Rattle.sb_plain.specs.Answers.{event_told}
-use Rattle.sb_box.specs.declared.refusal.Refusal.TheVariants.{NoKind}
-use Rattle.sb_box.specs.Asked.{unasked, kind_of}
+use Rattle.bus_core.specs.Answers.{event_told}
+use Rattle.checked_bus.specs.declared.refusal.Refusal.TheVariants.{NoKind}
+use Rattle.checked_bus.specs.Asked.{unasked, kind_of}
 use Rattle.fsw_c.specs.BusCodes.{evs_code}
 use Rattle.fsw_c.proofs.BusSteps.{called-with, event_told-form, always}
 use Rattle.fsw_c.proofs.Values.{evs-some, kept-found}

@@ -1,6 +1,6 @@
 use Rattle.std.proofs.Common.{Some, refl, ap, sym, ◌∙◌}
 use Rattle.tbl_words.specs.declared.history.Call.TheVariants.{GetAddress}
-use Rattle.tbl_plain.specs.Answers.{plain_addressed}
+use Rattle.table_core.specs.Answers.{plain_addressed}
 use Rattle.fsw_c.specs.TableCodes.{address_code}
 use Rattle.fsw_c.proofs.TableSteps.{called-as, both}
 use Rattle.fsw_c.proofs.holding.fsw_raw_table_get_address.Goals as goal

@@ -1,6 +1,6 @@
 use Rattle.std.proofs.Common.{Some, refl, ap, sym, ◌∙◌}
 use Rattle.bus_words.specs.declared.history.Call.TheVariants.{Pend}
-use Rattle.sb_box.specs.Asked.{unasked}
+use Rattle.checked_bus.specs.Asked.{unasked}
 use Rattle.fsw_c.proofs.BusSteps.{called-pend, three}
 use Rattle.fsw_c.proofs.messages.fsw_raw_pend.Goals as goal
 

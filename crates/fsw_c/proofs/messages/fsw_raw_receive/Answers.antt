@@ -1,7 +1,7 @@
 use Rattle.std.proofs.Common.{Some, refl, ap, sym, ◌∙◌}
 use Rattle.bus_words.specs.declared.history.Call.TheVariants.{Receive}
-use Rattle.sb_box.specs.Answers.{received}
-use Rattle.sb_box.specs.Asked.{unasked}
+use Rattle.checked_bus.specs.Answers.{received}
+use Rattle.checked_bus.specs.Asked.{unasked}
 use Rattle.fsw_c.specs.BusCodes.{sb_code}
 use Rattle.fsw_c.proofs.BusSteps.{called, received-form, three}
 use Rattle.fsw_c.proofs.messages.fsw_raw_receive.Goals as goal

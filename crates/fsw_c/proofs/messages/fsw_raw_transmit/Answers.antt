@@ -1,7 +1,7 @@
 use Rattle.std.proofs.Common.{Some, refl, ap, sym, ◌∙◌}
 use Rattle.bus_words.specs.declared.history.Call.TheVariants.{Transmit}
-use Rattle.sb_plain.specs.Answers.{sent}
-use Rattle.sb_box.specs.Asked.{unasked}
+use Rattle.bus_core.specs.Answers.{sent}
+use Rattle.checked_bus.specs.Asked.{unasked}
 use Rattle.fsw_c.proofs.BusSteps.{called-send, sent-form, always}
 use Rattle.fsw_c.proofs.messages.fsw_raw_transmit.Goals as goal
 

@@ -1,7 +1,7 @@
 use Rattle.std.proofs.Common.{Some, refl, ap, sym, ◌∙◌}
 use Rattle.bus_words.specs.declared.history.Call.TheVariants.{Create}
-use Rattle.sb_plain.specs.Answers.{numbered}
-use Rattle.sb_box.specs.Asked.{unasked}
+use Rattle.bus_core.specs.Answers.{numbered}
+use Rattle.checked_bus.specs.Asked.{unasked}
 use Rattle.fsw_c.specs.BusCodes.{sb_code}
 use Rattle.fsw_c.proofs.BusSteps.{called, numbered-form, always}
 use Rattle.fsw_c.proofs.pipes.fsw_raw_create_pipe.Goals as goal

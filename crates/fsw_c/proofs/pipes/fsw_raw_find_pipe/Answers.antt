@@ -1,10 +1,10 @@
 use Rattle.std.proofs.Common.{length, Some, None, refl, ap, sym, ◌∙◌}
 use Rattle.bus_words.specs.declared.history.Call.TheVariants.{Find}
-use Rattle.sb_plain.specs.Answers.{numbered}
+use Rattle.bus_core.specs.Answers.{numbered}
 use Rattle.fsw_c.specs.BusCodes.{sb_code}
 use Rattle.std.specs.Prelude.{nat_lt}
 use Rattle.bus_words.specs.Machine.{refused_if}
-use Rattle.sb_box.specs.declared.refusal.Refusal.TheVariants.{TooLong}
+use Rattle.checked_bus.specs.declared.refusal.Refusal.TheVariants.{TooLong}
 use Rattle.fsw_c.proofs.BusSteps.{called, numbered-form, always, for-app}
 use Rattle.fsw_c.proofs.Values.{sb-some, answer-found, kept-found}
 use Rattle.fsw_c.proofs.pipes.fsw_raw_find_pipe.Goals as goal

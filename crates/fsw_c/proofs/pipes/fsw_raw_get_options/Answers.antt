@@ -1,6 +1,6 @@
 use Rattle.std.proofs.Common.{Some, None, refl, ap, sym, ◌∙◌}
 use Rattle.bus_words.specs.declared.history.Call.TheVariants.{GetOpts}
-use Rattle.sb_plain.specs.Answers.{numbered}
+use Rattle.bus_core.specs.Answers.{numbered}
 use Rattle.fsw_c.specs.BusCodes.{sb_code}
 use Rattle.fsw_c.proofs.BusSteps.{answered, numbered-form}
 use Rattle.fsw_c.proofs.Values.{sb-some, answer-read, kept-read}

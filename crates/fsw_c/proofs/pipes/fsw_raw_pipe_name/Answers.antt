@@ -1,6 +1,6 @@
 use Rattle.std.proofs.Common.{Some, None, refl, ap, sym, ◌∙◌}
 use Rattle.bus_words.specs.declared.history.Call.TheVariants.{PipeName}
-use Rattle.sb_plain.specs.Answers.{named}
+use Rattle.bus_core.specs.Answers.{named}
 use Rattle.fsw_c.specs.BusCodes.{sb_code}
 use Rattle.fsw_c.proofs.BusSteps.{answered, named-form}
 use Rattle.fsw_c.proofs.Values.{sb-some, answer-read, kept-read, rest-read}

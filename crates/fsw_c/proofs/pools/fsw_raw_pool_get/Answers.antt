@@ -1,7 +1,7 @@
 use Rattle.std.proofs.Common.{Some, refl, ap, sym, ◌∙◌}
 use Rattle.bus_words.specs.declared.history.Call.TheVariants.{PoolGet}
-use Rattle.sb_plain.specs.Answers.{pool_told}
-use Rattle.sb_box.specs.Asked.{unasked}
+use Rattle.bus_core.specs.Answers.{pool_told}
+use Rattle.checked_bus.specs.Asked.{unasked}
 use Rattle.fsw_c.proofs.BusSteps.{called-get, pool_told-form}
 use Rattle.fsw_c.proofs.pools.fsw_raw_pool_get.Goals as goal
 

@@ -1,7 +1,7 @@
 use Rattle.std.proofs.Common.{Some, refl, ap, sym, ◌∙◌}
 use Rattle.bus_words.specs.declared.history.Call.TheVariants.{PoolPut}
-use Rattle.sb_plain.specs.Answers.{grant_back}
-use Rattle.sb_box.specs.Asked.{unasked}
+use Rattle.bus_core.specs.Answers.{grant_back}
+use Rattle.checked_bus.specs.Asked.{unasked}
 use Rattle.fsw_c.specs.BusCodes.{es_code}
 use Rattle.fsw_c.proofs.BusSteps.{called, grant_back-form, always}
 use Rattle.fsw_c.proofs.pools.fsw_raw_pool_put.Goals as goal

@@ -1,6 +1,6 @@
 use Rattle.std.proofs.Common.{Some, None, refl, ap, sym, ◌∙◌}
 use Rattle.bus_words.specs.declared.history.Call.TheVariants.{PoolFigures}
-use Rattle.sb_plain.specs.Answers.{figures_told}
+use Rattle.bus_core.specs.Answers.{figures_told}
 use Rattle.fsw_c.specs.BusCodes.{es_code}
 use Rattle.fsw_c.proofs.BusSteps.{answered, figures_told-form}
 use Rattle.fsw_c.proofs.pools.fsw_raw_pool_stats.Goals as goal

@@ -1,7 +1,7 @@
 use Rattle.std.proofs.Common.{Option, Some, ap, sym, ◌∙◌}
 use Rattle.tbl_words.specs.declared.history.Call.TheVariants.{Abort}
 use Rattle.tbl_words.specs.Machine.{cause}
-use Rattle.tbl_box.specs.Asked.{unasked}
+use Rattle.checked_tables.specs.Asked.{unasked}
 use Rattle.fsw_core.specs.declared.Core.{Core}
 use Rattle.fsw_c.specs.TableReads.{read_code}
 use Rattle.fsw_c.proofs.TableReads.{look-code}

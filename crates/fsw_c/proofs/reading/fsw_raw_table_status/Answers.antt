@@ -1,6 +1,6 @@
 use Rattle.std.proofs.Common.{Some, refl, ap, sym, ◌∙◌}
 use Rattle.tbl_words.specs.declared.history.Call.TheVariants.{Status}
-use Rattle.tbl_plain.specs.Answers.{plain_figures_told}
+use Rattle.table_core.specs.Answers.{plain_figures_told}
 use Rattle.fsw_c.proofs.TableSteps.{called, figures-form, if_ok, on_err}
 use Rattle.fsw_c.proofs.reading.fsw_raw_table_status.Goals as goal
 

@@ -1,7 +1,7 @@
 use Rattle.std.proofs.Common.{List, replicate, Some, refl, ap, sym, ◌∙◌, subst, arith}
 use Rattle.tbl_rules.specs.declared.rules.Rule.{Rule}
 use Rattle.tbl_words.specs.declared.history.Call.TheVariants.{Register}
-use Rattle.tbl_plain.specs.Answers.{registered}
+use Rattle.table_core.specs.Answers.{registered}
 use Rattle.fsw_c.specs.Rules.{rules_in}
 use Rattle.fsw_c.specs.TableAnswers.{TableCall}
 use Rattle.fsw_c.specs.TableCodes.{registration_code}

@@ -1,9 +1,9 @@
 use Rattle.std.proofs.Common.{Some, refl, ap, sym, ◌∙◌}
 use Rattle.fsw_base.specs.declared.config.Scope.TheVariants.{Global}
 use Rattle.bus_words.specs.declared.history.Call.TheVariants.{Subscribe}
-use Rattle.sb_plain.specs.Answers.{done}
-use Rattle.sb_box.specs.declared.refusal.Refusal.TheVariants.{NoScope}
-use Rattle.sb_box.specs.Asked.{unasked, scope_of}
+use Rattle.bus_core.specs.Answers.{done}
+use Rattle.checked_bus.specs.declared.refusal.Refusal.TheVariants.{NoScope}
+use Rattle.checked_bus.specs.Asked.{unasked, scope_of}
 use Rattle.fsw_c.specs.BusCodes.{sb_code}
 use Rattle.fsw_c.proofs.BusSteps.{called-with, done-form, always}
 use Rattle.fsw_c.proofs.subscribing.fsw_raw_subscribe.Goals as goal

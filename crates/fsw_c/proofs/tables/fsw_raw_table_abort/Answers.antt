@@ -1,6 +1,6 @@
 use Rattle.std.proofs.Common.{Some, refl, ap, sym, ◌∙◌}
 use Rattle.tbl_words.specs.declared.history.Call.TheVariants.{Abort}
-use Rattle.tbl_plain.specs.Answers.{done}
+use Rattle.table_core.specs.Answers.{done}
 use Rattle.fsw_c.proofs.TableSteps.{called, done-form, if_ok}
 use Rattle.fsw_c.proofs.tables.fsw_raw_table_abort.Goals as goal
 

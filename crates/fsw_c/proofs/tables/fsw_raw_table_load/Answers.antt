@@ -1,6 +1,6 @@
 use Rattle.std.proofs.Common.{Some, refl, ap, sym, ◌∙◌}
 use Rattle.tbl_words.specs.declared.history.Call.TheVariants.{Load}
-use Rattle.tbl_plain.specs.Answers.{done}
+use Rattle.table_core.specs.Answers.{done}
 use Rattle.fsw_c.proofs.TableSteps.{called-version, done-form}
 use Rattle.fsw_c.proofs.tables.fsw_raw_table_load.Goals as goal
 

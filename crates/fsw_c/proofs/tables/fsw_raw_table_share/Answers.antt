@@ -1,6 +1,6 @@
 use Rattle.std.proofs.Common.{Some, refl, ap, sym, ◌∙◌}
 use Rattle.tbl_words.specs.declared.history.Call.TheVariants.{Share}
-use Rattle.tbl_plain.specs.Answers.{shared}
+use Rattle.table_core.specs.Answers.{shared}
 use Rattle.fsw_c.proofs.TableSteps.{called, shared-form, if_ok}
 use Rattle.fsw_c.proofs.tables.fsw_raw_table_share.Goals as goal
 

@@ -1,5 +1,5 @@
 use Rattle.std.proofs.Common.{map, ap, sym}
-use Rattle.pool_words.specs.Grants.{pool_account}
+use Rattle.fsw_base.specs.Grants.{pool_account}
 use Rattle.bus_words.specs.Held.{account_of}
 use Rattle.sb_calls.specs.Core.{state_of}
 use Rattle.run_report.proofs.Accounts.{one_account}

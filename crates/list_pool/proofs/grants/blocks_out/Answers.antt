@@ -2,7 +2,7 @@
 use Rattle.std.proofs.Common.{ℕ, ◌∷◌, [], ◌++◌, map, ap, sym, ◌∙◌, arith}
 use Rattle.std.specs.List.{range_with_len}
 use Rattle.std.proofs.lemmas.List.FromFn.{map-range_with_len_more}
-use Rattle.pool_words.specs.Grants.{out_of}
+use Rattle.fsw_base.specs.Grants.{out_of}
 use Rattle.list_pool.proofs.grants.blocks_out.Goals as goal
 
 pub loop-class-preserved : goal.loop-class-preserved

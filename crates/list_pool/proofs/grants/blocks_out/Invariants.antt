@@ -1,6 +1,6 @@
 use Rattle.std.proofs.Common.{◌≡◌, map}
 use Rattle.std.specs.List.{range_with_len}
-use Rattle.pool_words.specs.Grants.{out_of}
+use Rattle.fsw_base.specs.Grants.{out_of}
 use Rattle.list_pool.proofs.grants.blocks_out.Given as goal
 
 -- the block sizes so far

@@ -1,5 +1,5 @@
 use Rattle.std.proofs.Common.{◌≡◌, ◌++◌, map, take, drop, length}
-use Rattle.pool_words.specs.Grants.{after_end}
+use Rattle.fsw_base.specs.Grants.{after_end}
 use Rattle.list_pool.proofs.pools.end_all.Given as goal
 
 -- the first pools are done, the others are as they were

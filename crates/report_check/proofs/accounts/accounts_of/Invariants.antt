@@ -1,5 +1,5 @@
 use Rattle.std.proofs.Common.{◌≡◌, map, take}
-use Rattle.pool_words.specs.Grants.{pool_account}
+use Rattle.fsw_base.specs.Grants.{pool_account}
 use Rattle.report_check.proofs.accounts.accounts_of.Given as goal
 
 abbrev pub invariant-loop-i : goal.invariant-loop-i

@@ -2,7 +2,7 @@ use Rattle.std.proofs.Common.{◌≡◌, ◌+◌, ◌-◌, ◌<◌, [], length, 
 use Rattle.std.proofs.lemmas.Option.{slice_get-get_or}
 use Rattle.run_report.specs.CounterText.{account_text}
 use Rattle.run_report.specs.declared.pools.PoolName.TheVariants.{Applications}
-use Rattle.pool_words.specs.Grants.{new_pool, pool_in, pool_account}
+use Rattle.fsw_base.specs.Grants.{new_pool, pool_in, pool_account}
 use Rattle.text_page.proofs.ListTexts.{numbered-map-next}
 use Rattle.text_page.proofs.PieceTexts.{◌▸◌, puts_as}
 use Rattle.run_report.proofs.Accounts.{one_account}

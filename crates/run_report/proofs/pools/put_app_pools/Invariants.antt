@@ -1,5 +1,5 @@
 use Rattle.std.proofs.Common.{take, map}
-use Rattle.pool_words.specs.Grants.{pool_account}
+use Rattle.fsw_base.specs.Grants.{pool_account}
 use Rattle.text_page.specs.Pieces.{Puts}
 use Rattle.run_report.specs.CounterText.{accounts_text}
 use Rattle.run_report.proofs.pools.put_app_pools.Given as goal

@@ -2,7 +2,7 @@ use Rattle.std.proofs.Common.{Result, Ok, Err, ap, ◌∙◌, inl, inr, refl, su
 use Rattle.fsw_base.specs.Limits.{Limits}
 use Rattle.fsw_base.specs.declared.statuses.SbStatus.{SbStatus}
 use Rattle.bus_words.specs.declared.history.Call.TheVariants.{Create}
-use Rattle.sb_plain.specs.Answers.{numbered}
+use Rattle.bus_core.specs.Answers.{numbered}
 use Rattle.bus_service.specs.Ports.{Answers}
 use Rattle.app_script.specs.Script.{ScriptText}
 use Rattle.sb_bridge.proofs.FirstSteps.{created, may_create}

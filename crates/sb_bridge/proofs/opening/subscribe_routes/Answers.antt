@@ -1,6 +1,6 @@
 use Rattle.std.proofs.Common.{◌∙◌, subst, arith, List}
 use Rattle.std.proofs.lemmas.List.{take_all}
-use Rattle.sb_plain.specs.Answers.{done}
+use Rattle.bus_core.specs.Answers.{done}
 use Rattle.bridge_plan.specs.declared.routes.Route.{Route}
 use Rattle.sb_bridge.specs.Openings.{HasCalled, subscriptions}
 use Rattle.sb_bridge.proofs.FirstSteps.{called-none, may_subscribe, subscribed}

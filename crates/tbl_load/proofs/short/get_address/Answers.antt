@@ -1,7 +1,7 @@
 use Rattle.std.proofs.Common.{◌<◌, ◌^◌, Result, subst, arith}
 use Rattle.tbl_words.specs.declared.statuses.TblStatus.{TblStatus}
-use Rattle.tbl_plain.specs.declared.answers.PlainAddress.{PlainAddress}
-use Rattle.tbl_plain.specs.Answers.{plain_addressed}
+use Rattle.table_core.specs.declared.answers.PlainAddress.{PlainAddress}
+use Rattle.table_core.specs.Answers.{plain_addressed}
 use Rattle.tbl_load.proofs.Versions.{version_in, address_few}
 use Rattle.tbl_load.proofs.short.get_address.Goals as goal
 

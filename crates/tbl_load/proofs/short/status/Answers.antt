@@ -1,7 +1,7 @@
 use Rattle.std.proofs.Common.{◌<◌, ◌^◌, Result, subst, arith}
 use Rattle.tbl_words.specs.declared.statuses.TblStatus.{TblStatus}
-use Rattle.tbl_plain.specs.declared.answers.PlainState.{PlainState}
-use Rattle.tbl_plain.specs.Answers.{plain_figures_told}
+use Rattle.table_core.specs.declared.answers.PlainState.{PlainState}
+use Rattle.table_core.specs.Answers.{plain_figures_told}
 use Rattle.tbl_load.proofs.Versions.{version_in, status_few}
 use Rattle.tbl_load.proofs.short.status.Goals as goal
 

@@ -5,7 +5,7 @@ use Rattle.std.proofs.lemmas.List.{get_or_read}
 use Rattle.fsw_base.specs.declared.statuses.EsStatus.{EsStatus}
 use Rattle.es_pool.specs.Pool.{given_back}
 use Rattle.es_pool.proofs.Keeps.{inside_from_out}
-use Rattle.pool_words.specs.Grants.{PoolGrants, put_answer, class_under}
+use Rattle.fsw_base.specs.Grants.{PoolGrants, put_answer, class_under}
 use Rattle.app_pools.specs.Inside.{grants_of, IsLent, HasNumber}
 use Rattle.app_pools.specs.declared.pool.Lent.{Lent}
 use Rattle.app_pools.proofs.Keeps.{removed_answer, answer_back}

@@ -1,5 +1,5 @@
 use Rattle.std.proofs.Common.{sym, ap, subst, ◌∙◌, length, vec_capacity}
-use Rattle.pool_words.specs.Grants.{after_end}
+use Rattle.fsw_base.specs.Grants.{after_end}
 use Rattle.app_pools.specs.Inside.{AreGivenBack}
 use Rattle.app_pools.proofs.Returns.{end_is, kept_ended}
 use Rattle.app_pools.proofs.pool.AppPool.end.Goals as goal

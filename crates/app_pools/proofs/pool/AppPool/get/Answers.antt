@@ -1,6 +1,6 @@
 use Rattle.std.proofs.Common.{◌+◌, Err, refl, sym, ap, subst, ◌∙◌, vec_capacity, arith}
 use Rattle.es_pool.specs.Pool.{fits}
-use Rattle.pool_words.specs.Grants.{get_answer, after_get}
+use Rattle.fsw_base.specs.Grants.{get_answer, after_get}
 use Rattle.app_pools.specs.Inside.{grants_of, AreKept}
 use Rattle.app_pools.specs.declared.pool.Lent.{Lent}
 use Rattle.app_pools.proofs.Keeps.{room_left, kept_push, given_is, answer_given, answer_refused, refused_is, false_unless}

@@ -1,6 +1,6 @@
 use Rattle.std.proofs.Common.{◌≢◌, All, Err, refl, sym, ap, subst, ◌∙◌, vec_capacity}
 use Rattle.es_pool.specs.Pool.{given_back}
-use Rattle.pool_words.specs.Grants.{put_answer, after_put}
+use Rattle.fsw_base.specs.Grants.{put_answer, after_put}
 use Rattle.app_pools.specs.Inside.{grants_of, AreKept, HasNumber}
 use Rattle.app_pools.specs.declared.pool.Lent.{Lent}
 use Rattle.app_pools.proofs.Keeps.{kept_removed, removed_is, removed_answer, refusal_is, never_out, answer_back}

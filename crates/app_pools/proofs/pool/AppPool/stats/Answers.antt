@@ -2,7 +2,7 @@
 use Rattle.std.proofs.Common.{◌-◌, ap, sym, ◌∙◌}
 use Rattle.fsw_base.specs.declared.config.PoolStats.{PoolStats}
 use Rattle.es_pool.proofs.Law.{rest_alike}
-use Rattle.pool_words.specs.Grants.{figures_of}
+use Rattle.fsw_base.specs.Grants.{figures_of}
 use Rattle.app_pools.specs.Inside.{account_in}
 use Rattle.app_pools.proofs.pool.AppPool.stats.Goals as goal
 

@@ -2,7 +2,7 @@
 use Rattle.std.proofs.Common.{◌≡◌, ◌+◌, ◌≤◌, Option, IfOk, get_or, refl, ap, subst, ◌∙◌, arith}
 use Rattle.std.specs.Result.{result_err}
 use Rattle.fsw_base.specs.declared.statuses.EsStatus.{EsStatus}
-use Rattle.pool_words.specs.Grants.{PoolGrants, pool_in, put_answer, class_under}
+use Rattle.fsw_base.specs.Grants.{PoolGrants, pool_in, put_answer, class_under}
 use Rattle.app_pools.specs.declared.pool.GrantBlock.{GrantBlock}
 use Rattle.app_pools.proofs.Places.{inside, reads, refusal_there, refusal_nowhere}
 use Rattle.app_pools.proofs.pools.AppPools.block.Goals as goal

@@ -1,5 +1,5 @@
 use Rattle.std.proofs.Common.{◌≤◌, sym, ap, subst, ◌∙◌, arith}
-use Rattle.pool_words.specs.Grants.{PoolGrants}
+use Rattle.fsw_base.specs.Grants.{PoolGrants}
 use Rattle.app_pools.proofs.Places.{few, open_place, within_most, fresh, created, opened_more, created_number}
 use Rattle.app_pools.proofs.pools.AppPools.create.Goals as goal
 

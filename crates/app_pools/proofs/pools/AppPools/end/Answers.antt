@@ -1,5 +1,5 @@
 use Rattle.std.proofs.Common.{ap, arith}
-use Rattle.pool_words.specs.Grants.{held_in}
+use Rattle.fsw_base.specs.Grants.{held_in}
 use Rattle.app_pools.proofs.Places.{ended_is, opened_ended}
 use Rattle.app_pools.proofs.pools.AppPools.end.Goals as goal
 

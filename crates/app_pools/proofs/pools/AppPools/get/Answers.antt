@@ -1,5 +1,5 @@
 use Rattle.std.proofs.Common.{◌^◌, ◌-◌, ◌<◌, refl, sym, ap, subst, ◌∙◌, arith}
-use Rattle.pool_words.specs.Grants.{PoolGrants, pool_in, with_pool, get_answer, after_get}
+use Rattle.fsw_base.specs.Grants.{PoolGrants, pool_in, with_pool, get_answer, after_get}
 use Rattle.app_pools.proofs.Places.{inside, reads, changes, opened_get, numbers_there, answer_there, answer_nowhere, unchanged_nowhere}
 use Rattle.app_pools.proofs.pools.AppPools.get.Goals as goal
 

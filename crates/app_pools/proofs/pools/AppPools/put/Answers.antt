@@ -1,5 +1,5 @@
 use Rattle.std.proofs.Common.{refl, ap, ◌∙◌, arith}
-use Rattle.pool_words.specs.Grants.{pool_in, with_pool, put_answer, after_put}
+use Rattle.fsw_base.specs.Grants.{pool_in, with_pool, put_answer, after_put}
 use Rattle.app_pools.proofs.Places.{inside, reads, changes, opened_put, answer_there, answer_nowhere, unchanged_nowhere}
 use Rattle.app_pools.proofs.pools.AppPools.put.Goals as goal
 

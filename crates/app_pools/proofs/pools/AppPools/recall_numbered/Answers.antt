@@ -1,6 +1,6 @@
 use Rattle.std.proofs.Common.{All, subst}
 use Rattle.std.proofs.lemmas.List.Elements.{All-take}
-use Rattle.pool_words.specs.Grants.{Pools, IsNumbered}
+use Rattle.fsw_base.specs.Grants.{Pools, IsNumbered}
 use Rattle.app_pools.proofs.pools.AppPools.recall_numbered.Goals as goal
 
 pub returns : goal.returns

@@ -1,5 +1,5 @@
 use Rattle.std.proofs.Common.{Ok, refl, ap, ◌∙◌, arith}
-use Rattle.pool_words.specs.Grants.{pool_in, figures_of}
+use Rattle.fsw_base.specs.Grants.{pool_in, figures_of}
 use Rattle.app_pools.proofs.Places.{inside, reads, answer_there, answer_nowhere}
 use Rattle.app_pools.proofs.pools.AppPools.stats.Goals as goal
 

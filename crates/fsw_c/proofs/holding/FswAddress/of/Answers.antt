@@ -1,7 +1,7 @@
 use Rattle.std.proofs.Common.{ap, ◌∙◌}
 use Rattle.std.specs.Option.{option_map}
-use Rattle.tbl_box.specs.Asked.{is_application}
-use Rattle.tbl_box.specs.Box.{held_value}
+use Rattle.checked_tables.specs.Asked.{is_application}
+use Rattle.checked_tables.specs.Box.{held_value}
 use Rattle.fsw_c.specs.Shown.{shown_length}
 use Rattle.fsw_c.proofs.Shown.{shown}
 use Rattle.fsw_c.proofs.holding.FswAddress.of.Goals as goal

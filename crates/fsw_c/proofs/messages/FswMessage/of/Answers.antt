@@ -1,7 +1,7 @@
 use Rattle.std.proofs.Common.{ℕ, List, Option, Bor, ap, ◌∙◌}
 use Rattle.std.specs.Option.{option_map}
-use Rattle.sb_box.specs.Asked.{is_application}
-use Rattle.sb_box.specs.Box.{last_message}
+use Rattle.checked_bus.specs.Asked.{is_application}
+use Rattle.checked_bus.specs.Box.{last_message}
 use Rattle.fsw_c.specs.Shown.{shown_length}
 use Rattle.fsw_c.proofs.Shown.{shown}
 use Rattle.fsw_c.proofs.messages.FswMessage.of.Goals as goal

@@ -1,6 +1,6 @@
 use Rattle.std.proofs.Common.{refl, sym, ap, subst, ◌∙◌}
 use Rattle.bus_words.specs.declared.history.Call.TheVariants.{PoolCreate}
-use Rattle.pool_words.specs.Grants.{create_answer}
+use Rattle.fsw_base.specs.Grants.{create_answer}
 use Rattle.list_bus.specs.Decided.{numbered}
 use Rattle.list_bus.specs.Played.{Played, IsPlayed}
 use Rattle.list_bus.specs.Inside.{means, played_in}

@@ -1,6 +1,6 @@
 use Rattle.std.proofs.Common.{Ok, sym, ap, ◌∙◌}
 use Rattle.bus_words.specs.declared.history.Call.TheVariants.{PoolFigures}
-use Rattle.pool_words.specs.Grants.{answer_in, pool_in, figures_of}
+use Rattle.fsw_base.specs.Grants.{answer_in, pool_in, figures_of}
 use Rattle.list_bus.specs.Decided.{figured}
 use Rattle.list_bus.specs.Played.{Played}
 use Rattle.list_bus.proofs.DecidedCalls.{decides_still}

@@ -1,6 +1,6 @@
 use Rattle.std.proofs.Common.{refl, sym, ap, subst, ◌∙◌}
 use Rattle.bus_words.specs.declared.history.Call.TheVariants.{PoolGet}
-use Rattle.pool_words.specs.Grants.{answer_in, get_answer, pool_in}
+use Rattle.fsw_base.specs.Grants.{answer_in, get_answer, pool_in}
 use Rattle.list_bus.specs.Decided.{numbered}
 use Rattle.list_bus.specs.Played.{Played, IsPlayed}
 use Rattle.list_bus.specs.Inside.{means, played_in}

@@ -1,5 +1,5 @@
 use Rattle.std.proofs.Common.{ap}
-use Rattle.tbl_blocks.specs.Held.{HeldViews}
+use Rattle.table_blocks.specs.Held.{HeldViews}
 use Rattle.rows_core.proofs.UnusedBags.{unused-after}
 use Rattle.rows_core.proofs.unused.UnusedTables.end.Goals as goal
 

@@ -1,7 +1,7 @@
 use Rattle.std.proofs.Common.{subst}
 use Rattle.es_pool.specs.Account.{IsAccountOf}
 use Rattle.tbl_words.specs.Tables.{State, account_of}
-use Rattle.tbl_plain.specs.Blocks.{AreTableBlocks}
+use Rattle.table_core.specs.Blocks.{AreTableBlocks}
 use Rattle.tbl_load.specs.Bags.{lent_tables}
 use Rattle.tbl_load.specs.Core.{Core, state_of}
 use Rattle.tbl_load.proofs.TablePlaces.{blocks_of_history}

@@ -2,7 +2,7 @@ use Rattle.std.proofs.Common.{count_by, eqb, refl, ap, arith}
 use Rattle.tbl_words.specs.declared.calls.TblAnswer.TheVariants.{Done}
 use Rattle.tbl_words.specs.declared.history.Call.TheVariants.{End}
 use Rattle.tbl_words.specs.Tables.{Handle, State}
-use Rattle.tbl_blocks.specs.Held.{HeldViews}
+use Rattle.table_blocks.specs.Held.{HeldViews}
 use Rattle.tbl_load.proofs.CallEffects.{made_taking, none_stays}
 use Rattle.tbl_load.proofs.CoreBags.{bag_in, bag_out}
 use Rattle.tbl_load.proofs.OthersBags.{others_keep}

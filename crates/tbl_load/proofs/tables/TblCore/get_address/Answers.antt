@@ -1,7 +1,7 @@
 use Rattle.std.proofs.Common.{ap, sym, ◌∙◌}
 use Rattle.tbl_words.specs.declared.history.Call.TheVariants.{GetAddress}
-use Rattle.tbl_blocks.specs.Held.{held_at}
-use Rattle.tbl_plain.specs.Core.{loan_of}
+use Rattle.table_blocks.specs.Held.{held_at}
+use Rattle.table_core.specs.Core.{loan_of}
 use Rattle.tbl_load.specs.Notes.{note_due, note_seen}
 use Rattle.tbl_load.proofs.CallEffects.{made_giving, address_due, address_for, address_stays}
 use Rattle.tbl_load.proofs.CoreBags.{bag_in, bag_out}

@@ -6,7 +6,7 @@ use Rattle.tbl_words.specs.Log.{left_of}
 use Rattle.tbl_words.specs.Machine.{state_after}
 use Rattle.tbl_words.specs.Tables.{opening}
 use Rattle.tbl_words.specs.Uses.{peak_after}
-use Rattle.tbl_plain.specs.Core.{Plain}
+use Rattle.table_core.specs.Core.{Plain}
 use Rattle.tbl_load.specs.Core.{IsLegalCore}
 use Rattle.tbl_load.specs.Notes.{NotedLog}
 use Rattle.tbl_load.proofs.Budgets.{entries_left-allowances}

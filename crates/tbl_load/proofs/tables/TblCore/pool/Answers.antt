@@ -2,7 +2,7 @@ use Rattle.std.proofs.Common.{◌≡◌, subst}
 use Rattle.es_pool.specs.Account.{IsAccountOf}
 use Rattle.es_pool.specs.Pool.{in_use_by}
 use Rattle.tbl_words.specs.Tables.{State, account_of, bytes_in_use}
-use Rattle.tbl_plain.specs.Blocks.{IsTablePool}
+use Rattle.table_core.specs.Blocks.{IsTablePool}
 use Rattle.tbl_load.specs.Bags.{lent_tables}
 use Rattle.tbl_load.specs.Core.{Core, state_of}
 use Rattle.tbl_load.proofs.TablePlaces.{pool_of_history}

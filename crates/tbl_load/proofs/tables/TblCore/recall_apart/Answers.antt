@@ -1,5 +1,5 @@
 use Rattle.std.proofs.Common.{subst, sym}
-use Rattle.tbl_plain.specs.Core.{Plain}
+use Rattle.table_core.specs.Core.{Plain}
 use Rattle.tbl_load.specs.declared.tables.TblCore.TheInside.{Inside}
 use Rattle.tbl_load.specs.Bags.{AreTwoLoans}
 use Rattle.tbl_load.specs.Core.{Core}

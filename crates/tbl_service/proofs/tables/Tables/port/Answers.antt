@@ -2,7 +2,7 @@ use Rattle.std.proofs.Common.{ℕ, [], refl, ap, ap₂, sym, ◌∙◌, subst, a
 use Rattle.atomic_table.specs.Seated.{TableId}
 use Rattle.fsw_base.specs.declared.config.Budget.{Budget}
 use Rattle.journal_store.specs.declared.allowance.Allowance.{Allowance}
-use Rattle.tbl_blocks.specs.Held.{HeldViews}
+use Rattle.table_blocks.specs.Held.{HeldViews}
 use Rattle.tbl_load.specs.Bags.{HasBag}
 use Rattle.tbl_load.specs.Core.{Core}
 use Rattle.tbl_service.specs.Inside.{with_bag}

@@ -1,7 +1,0 @@
-use Rattle.text_page.proofs.PieceTexts.{◌▸◌}
-use Rattle.line_spelling.specs.Spelling.{line_words}
-use Rattle.line_spelling.proofs.bus_lines.put_find.Goals as goal
-
-pub returns : goal.returns
-unfolding line_words
-returns g c = c.put.ensures ▸ c.put_register.ensures ▸ c.put_name_word.ensures

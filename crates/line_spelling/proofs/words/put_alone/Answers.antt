@@ -1,5 +1,0 @@
-use Rattle.text_page.proofs.PieceTexts.{◌▸◌}
-use Rattle.line_spelling.proofs.words.put_alone.Goals as goal
-
-pub returns : goal.returns
-returns g c = c.put.ensures ▸ c.put_register.ensures

@@ -1,5 +1,0 @@
-use Rattle.text_page.proofs.PieceTexts.{◌▸◌}
-use Rattle.line_spelling.proofs.words.put_id_word.Goals as goal
-
-pub returns : goal.returns
-returns g c = c.put.ensures ▸ c.put_hex_id.ensures

@@ -1,5 +1,0 @@
-use Rattle.text_page.proofs.PieceTexts.{◌▸◌}
-use Rattle.line_spelling.proofs.words.put_rule_word.Goals as goal
-
-pub returns : goal.returns
-returns g c = c.put.ensures ▸ c.put_number.ensures ▸ c.put-2.ensures ▸ c.put_number-2.ensures ▸ c.put-3.ensures ▸ c.put_number-3.ensures

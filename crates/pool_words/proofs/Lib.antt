@@ -1,4 +1,0 @@
-pub mod Accounts
-pub mod GrantNumbers
-pub mod PoolCalls
-pub mod Tests

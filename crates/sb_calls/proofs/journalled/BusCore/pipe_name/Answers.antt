@@ -1,0 +1,22 @@
+use Rattle.std.proofs.Common.{refl}
+use Rattle.bus_words.specs.declared.history.Call.TheVariants.{PipeName}
+use Rattle.sb_calls.proofs.CoreBags.{bags_over}
+use Rattle.sb_calls.proofs.CallEffects.{made_plain, named-nothing}
+use Rattle.sb_calls.proofs.EntryLemma.{stands_over, does_over}
+use Rattle.sb_calls.proofs.journalled.BusCore.pipe_name.Goals as goal
+
+pub invariant_of-self : goal.invariant_of-self
+invariant_of-self c =
+    stands_over c.self.inside c.pipe_name-result.new.self c.push.new.self c.args.self.now c.args.app (PipeName c.args.pipe) _ c.self.view_is c.self.invariant c.requires.may
+    (made_plain c.self.inside c.pipe_name-result.new.self c.push.new.self c.args.app (PipeName c.args.pipe) _ c.of_named.result (c.pipe_name-result.ensures.does c.args.app) refl refl c.of_named.ensures
+    c.push.ensures (named-nothing c.pipe_name-result.result (PipeName c.args.pipe) 0) (λ pipe. refl) (λ number. refl) c.pipe_name-result.ensures.loans c.pipe_name-result.ensures.descs)
+
+pub returns-clause-does : goal.returns-clause-does
+returns-clause-does c =
+    does_over c.self.inside c.pipe_name-result.new.self c.push.new.self c.args.self.now c.args.app (PipeName c.args.pipe) _ c.self.view_is c.self.invariant c.requires.may
+    (made_plain c.self.inside c.pipe_name-result.new.self c.push.new.self c.args.app (PipeName c.args.pipe) _ c.of_named.result (c.pipe_name-result.ensures.does c.args.app) refl refl c.of_named.ensures
+    c.push.ensures (named-nothing c.pipe_name-result.result (PipeName c.args.pipe) 0) (λ pipe. refl) (λ number. refl) c.pipe_name-result.ensures.loans c.pipe_name-result.ensures.descs)
+
+pub returns-clause-bags : goal.returns-clause-bags
+returns-clause-bags c =
+    bags_over c.self.inside (record { core = c.pipe_name-result.new.self; noted = c.push.new.self }) c.args.self.now c.self.view_is c.self.invariant (invariant_of-self c) c.pipe_name-result.ensures.bags

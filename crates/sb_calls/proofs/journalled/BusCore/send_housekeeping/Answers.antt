@@ -1,0 +1,34 @@
+use Rattle.std.proofs.Common.{length, ap, arith, refl}
+use Rattle.bus_words.specs.declared.history.Call.TheVariants.{Housekeeping}
+use Rattle.housekeeping.specs.Packet.{housekeeping_id}
+use Rattle.bus_words.specs.Bus.{State, route}
+use Rattle.sb_calls.specs.Core.{drops_for}
+use Rattle.sb_calls.proofs.CoreBags.{bags_over}
+use Rattle.sb_calls.proofs.CallEffects.{made_plain, sent-nothing}
+use Rattle.sb_calls.proofs.EntryLemma.{may_act, few_sends, stands_over, does_over, bus_now}
+use Rattle.sb_calls.proofs.journalled.BusCore.send_housekeeping.Goals as goal
+
+pub send_housekeeping-result-requires : goal.send_housekeeping-result-requires
+send_housekeeping-result-requires g c = record { may = may_act c.self.inside c.args.self.now c.args.app Housekeeping c.self.view_is c.self.invariant c.requires.may; few = few_sends c.self.inside c.args.self.now c.args.app Housekeeping c.self.view_is c.self.invariant c.requires.may }
+
+pub invariant_of-self : goal.invariant_of-self
+invariant_of-self g c =
+    stands_over c.self.inside c.send_housekeeping-result.new.core c.push.new.self c.args.self.now c.args.app Housekeeping _ c.self.view_is c.self.invariant c.requires.may
+    (made_plain c.self.inside c.send_housekeeping-result.new.core c.push.new.self c.args.app Housekeeping _ c.of_sent.result c.send_housekeeping-result.ensures.does refl refl c.of_sent.ensures
+    c.push.ensures (sent-nothing c.send_housekeeping-result.result Housekeeping 0) (λ pipe. refl) (λ number. refl) c.send_housekeeping-result.ensures.loans c.send_housekeeping-result.ensures.descs)
+
+pub returns-clause-does : goal.returns-clause-does
+returns-clause-does g c =
+    does_over c.self.inside c.send_housekeeping-result.new.core c.push.new.self c.args.self.now c.args.app Housekeeping _ c.self.view_is c.self.invariant c.requires.may
+    (made_plain c.self.inside c.send_housekeeping-result.new.core c.push.new.self c.args.app Housekeeping _ c.of_sent.result c.send_housekeeping-result.ensures.does refl refl c.of_sent.ensures
+    c.push.ensures (sent-nothing c.send_housekeeping-result.result Housekeeping 0) (λ pipe. refl) (λ number. refl) c.send_housekeeping-result.ensures.loans c.send_housekeeping-result.ensures.descs)
+
+pub returns-clause-bags : goal.returns-clause-bags
+returns-clause-bags g c =
+    bags_over c.self.inside (record { core = c.send_housekeeping-result.new.core; noted = c.push.new.self }) c.args.self.now c.self.view_is c.self.invariant (invariant_of-self g c) c.send_housekeeping-result.ensures.bags
+
+pub returns-clause-cost : goal.returns-clause-cost
+returns-clause-cost g c =
+    let same = ap (λ (s : State). length (route s.subscriptions housekeeping_id)) (bus_now c.self.inside c.args.self.now c.self.view_is c.self.invariant) in
+    let few = ap (λ (s : State). drops_for s c.args.app housekeeping_id) (bus_now c.self.inside c.args.self.now c.self.view_is c.self.invariant) in
+    omega (arith, same, few, c.send_housekeeping-result.ensures.cost)

@@ -1,5 +1,0 @@
-use Rattle.script_generate.proofs.TextLemmas.{reads_back}
-use Rattle.script_generate.proofs.laws.generated_scripts_read_back.Goals as goal
-
-pub returns : goal.returns
-returns c = reads_back

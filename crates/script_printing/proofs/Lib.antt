@@ -1,4 +1,0 @@
-pub mod PrintLemmas
-pub mod LinesAgain
-pub mod SettingsBack
-pub mod AppsBack

@@ -1,0 +1,16 @@
+pub mod PieceLemmas
+pub mod WordLemmas
+pub mod SpelledNumbers
+pub mod SpelledWords
+pub mod LineReadings
+pub mod LinesBack
+pub mod PrintLemmas
+pub mod LinesAgain
+pub mod SettingsBack
+pub mod AppsBack
+pub mod ActionLemmas
+pub mod DrawLemmas
+pub mod LineLemmas
+pub mod ApplicationLemmas
+pub mod ScriptLemmas
+pub mod TextLemmas

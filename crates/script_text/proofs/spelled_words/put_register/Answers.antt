@@ -1,0 +1,5 @@
+use Rattle.text_page.proofs.PieceTexts.{◌▸◌}
+use Rattle.script_text.proofs.spelled_words.put_register.Goals as goal
+
+pub returns : goal.returns
+returns g c = c.put.ensures ▸ c.put_number.ensures

@@ -1,0 +1,17 @@
+use Rattle.std.proofs.Common.{◌∷◌, ap, ◌∙◌, length, ◌≤◌, arith}
+use Rattle.std.proofs.lemmas.List.{take_all}
+use Rattle.std.specs.List.{flat_map}
+use Rattle.text_page.proofs.ListTexts.{flat_map-next}
+use Rattle.text_page.proofs.PieceTexts.{◌▸◌, puts_as}
+use Rattle.script_text.specs.Spelling.{rule_text}
+use Rattle.script_text.proofs.PieceLemmas.{behind-map}
+use Rattle.script_text.proofs.table_lines.put_rules.Goals as goal
+
+pub loop-i-preserved : goal.loop-i-preserved
+loop-i-preserved g c =
+    puts_as _ (flat_map-next (λ item. 32 ∷ rule_text item) c.args.rules.now c.loop-i.i c.at.result c.at.ensures) (c.loop-i.invariant ▸ c.put_rule_word.ensures)
+
+pub returns : goal.returns
+returns g c =
+    let all : length c.args.rules.now ≤ c.loop-i.i = omega (arith, c.count-i-end.ensures.count) in
+    puts_as _ (ap (flat_map (λ item. 32 ∷ rule_text item)) (take_all c.loop-i.i c.args.rules.now all) ∙ behind-map rule_text c.args.rules.now) c.loop-i.invariant

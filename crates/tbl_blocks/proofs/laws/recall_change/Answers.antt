@@ -1,5 +1,0 @@
-use Rattle.tbl_blocks.proofs.Sets.{kept_set}
-use Rattle.tbl_blocks.proofs.laws.recall_change.Goals as goal
-
-pub returns : goal.returns
-returns c = kept_set

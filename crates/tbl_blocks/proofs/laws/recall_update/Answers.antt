@@ -1,5 +1,0 @@
-use Rattle.tbl_blocks.proofs.Sets.{version_before}
-use Rattle.tbl_blocks.proofs.laws.recall_update.Goals as goal
-
-pub returns : goal.returns
-returns c = version_before

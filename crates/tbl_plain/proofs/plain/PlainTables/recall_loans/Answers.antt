@@ -1,9 +1,0 @@
-use Rattle.std.proofs.Common.{subst}
-use Rattle.tbl_plain.specs.Core.{Plain, AreOneLoan}
-use Rattle.tbl_plain.proofs.OneLoan.{one_loan}
-use Rattle.tbl_plain.proofs.plain.PlainTables.recall_loans.Goals as goal
-
-pub returns : goal.returns
-returns c =
-    let P : Plain → Type 0 = λ core. AreOneLoan core in
-    subst P c.self.view_is (one_loan c.self.inside c.recall_ties.ensures)
