@@ -20,7 +20,6 @@ pub const MAX_APP_POOLS: u32 = 8;
 /// any of them. They lend no bytes: what they hand out are numbered grants.
 ///
 /// Contracts see of each pool its bytes, its counts, and the grants that are out.
-#[derive(Drop)]
 pub struct AppPools {
     // Room for [`MAX_APP_POOLS`] pools; those that weren't created are as large as one may be.
     places: Vec<AppPool>,
@@ -30,6 +29,17 @@ pub struct AppPools {
     most: u32,
     // The block sizes of every pool.
     sizes: BlockSizes,
+}
+
+impl Drop for AppPools {
+    fn drop(self) {
+        let AppPools {
+            places: _places,
+            made: _made,
+            most: _most,
+            sizes: _sizes,
+        } = self;
+    }
 }
 
 impl Model for AppPools {

@@ -14,7 +14,6 @@ const PAGE: usize = 4096;
 /// The memory that the messages and the tables of a run lie in: three blocks, for the bus's pool,
 /// for the tables' pool, and for the tables' working buffers. It outlives the run, and the next run
 /// may take it again.
-#[derive(Drop)]
 pub struct Regions {
     // For the bus's pool.
     pool: Vec<u8>,
@@ -22,6 +21,16 @@ pub struct Regions {
     tables: Vec<u8>,
     // For the tables' working buffers.
     work: Vec<u8>,
+}
+
+impl Drop for Regions {
+    fn drop(self) {
+        let Regions {
+            pool: _pool,
+            tables: _tables,
+            work: _work,
+        } = self;
+    }
 }
 
 impl Model for Regions {

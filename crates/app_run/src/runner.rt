@@ -30,7 +30,6 @@ pub enum Turned {
 }
 
 /// One application of a script: how far it has come, and its receipts so far.
-#[derive(Drop)]
 pub struct Runner<'s> {
     // The script that it runs an application of.
     script: &'s Script,
@@ -51,6 +50,22 @@ pub struct Runner<'s> {
     made: Vec<u8>,
     // Its receipts so far, with room for one of each line left.
     receipts: ReceiptList,
+}
+
+impl Drop for Runner<'_> {
+    fn drop(self) {
+        let Runner {
+            script: _script,
+            app: _app,
+            next: _next,
+            registers: _registers,
+            handles: _handles,
+            waits_on: _waits_on,
+            ended: _ended,
+            made: _made,
+            receipts: _receipts,
+        } = self;
+    }
 }
 
 impl<'s> Model for Runner<'s> {

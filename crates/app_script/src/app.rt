@@ -9,7 +9,6 @@ use std::alloc::{AllocError, Global};
 use std::marker::Model;
 
 /// An application: its name, its call lines in order, and what they take.
-#[derive(Drop)]
 pub struct App {
     // Its name.
     name: ByteText,
@@ -17,6 +16,16 @@ pub struct App {
     lines: Vec<Line>,
     // What these lines take.
     account: Account,
+}
+
+impl Drop for App {
+    fn drop(self) {
+        let App {
+            name: _name,
+            lines: _lines,
+            account: _account,
+        } = self;
+    }
 }
 
 impl Model for App {

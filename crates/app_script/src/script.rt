@@ -19,12 +19,20 @@ use std::marker::Model;
 
 /// A script: its version, the limits that it configures, and its applications with their call
 /// lines.
-#[derive(Drop)]
 pub struct Script {
     // Its version, and the limits that it configures.
     config: Config,
     // Its applications, in order of number.
     apps: Vec<App>,
+}
+
+impl Drop for Script {
+    fn drop(self) {
+        let Script {
+            config: _config,
+            apps: _apps,
+        } = self;
+    }
 }
 
 impl Model for Script {

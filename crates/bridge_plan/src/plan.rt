@@ -13,7 +13,6 @@ const PIPE_NAME_BYTES: u32 = 6;
 
 /// What a bridge is to do: up to [`MAX_ROUTES`] routes, each of another message id, and the scripts
 /// of both sides, of at most 15 applications each, so that the bridge is one more.
-#[derive(Drop)]
 pub struct BridgePlan {
     // The routes, in their order.
     routes: ArrayVec<Route, MAX_ROUTES>,
@@ -21,6 +20,16 @@ pub struct BridgePlan {
     one: Script,
     // The script of side 2, to which they go.
     two: Script,
+}
+
+impl Drop for BridgePlan {
+    fn drop(self) {
+        let BridgePlan {
+            routes: _routes,
+            one: _one,
+            two: _two,
+        } = self;
+    }
 }
 
 impl Model for BridgePlan {

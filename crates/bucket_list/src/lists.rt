@@ -10,7 +10,6 @@ use step_count::Steps;
 
 /// Lists over nodes 0, 1, 2 and so on, linked by index. Contracts see how many nodes there is room
 /// for, how many there are, and the node numbers of each list, front first.
-#[derive(Drop)]
 pub struct Lists {
     // At each node, the node behind it in its list. What stands at a list's last node, or at a
     // node in no list, says nothing.
@@ -21,6 +20,17 @@ pub struct Lists {
     counts: Vec<u32>,
     // How many nodes there are.
     nodes: u32,
+}
+
+impl Drop for Lists {
+    fn drop(self) {
+        let Lists {
+            links: _links,
+            heads: _heads,
+            counts: _counts,
+            nodes: _nodes,
+        } = self;
+    }
 }
 
 impl Model for Lists {

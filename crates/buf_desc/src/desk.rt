@@ -28,7 +28,6 @@ use step_count::{Ledger, Steps};
 /// application's that has it unsent, for a send and a size asked for, or sealed, and then its
 /// send, sizes, bytes, uses, loan and views that are out. Live is what is unsent or sealed. Each
 /// call takes a bounded number of counted steps, however many blocks are out.
-#[derive(Drop)]
 pub struct Desk<'r> {
     // Which blocks are out.
     pool: Pool,
@@ -36,6 +35,16 @@ pub struct Desk<'r> {
     slots: Vec<Slot<'r>>,
     // The part of the region that was never cut.
     rest: Space<'r>,
+}
+
+impl Drop for Desk<'_> {
+    fn drop(self) {
+        let Desk {
+            pool: _pool,
+            slots: _slots,
+            rest: _rest,
+        } = self;
+    }
 }
 
 impl<'r> Model for Desk<'r> {

@@ -8,7 +8,6 @@ use std::marker::Model;
 /// What stays of a block while its memory is lent out: all but the memory.
 ///
 /// Contracts see the block with zeros for its open bytes.
-#[derive(Drop)]
 pub struct Seat {
     // The number of its descriptor.
     desc: u32,
@@ -18,6 +17,17 @@ pub struct Seat {
     len: u32,
     // How many bytes the whole block has.
     size: usize,
+}
+
+impl Drop for Seat {
+    fn drop(self) {
+        let Seat {
+            desc: _desc,
+            number: _number,
+            len: _len,
+            size: _size,
+        } = self;
+    }
 }
 
 impl Model for Seat {

@@ -13,7 +13,6 @@ use std::marker::Model;
 
 /// The software bus of up to 16 applications, without a journal. By the code, all its memory is
 /// taken when it is made.
-#[derive(Drop)]
 pub struct PlainBus<'r> {
     // The limits that it was made with.
     pub(crate) config: Config,
@@ -26,6 +25,18 @@ pub struct PlainBus<'r> {
     pub(crate) pools: AppPools,
     // The event desk and the counters.
     pub(crate) records: Records,
+}
+
+impl Drop for PlainBus<'_> {
+    fn drop(self) {
+        let PlainBus {
+            config: _config,
+            activities: _activities,
+            store: _store,
+            pools: _pools,
+            records: _records,
+        } = self;
+    }
 }
 
 impl<'r> Model for PlainBus<'r> {

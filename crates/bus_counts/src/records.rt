@@ -18,12 +18,20 @@ use std::alloc::{AllocError, Global};
 use std::marker::Model;
 
 /// The event desk, the counters and the peaks of a software bus.
-#[derive(Drop)]
 pub struct Records {
     // The applications' registrations and the log, which has the bus's own events too.
     events: EventDesk,
     // How often what happened, and the peaks of what was in use.
     counters: Counters,
+}
+
+impl Drop for Records {
+    fn drop(self) {
+        let Records {
+            events: _events,
+            counters: _counters,
+        } = self;
+    }
 }
 
 impl Model for Records {

@@ -18,7 +18,6 @@ use zero_copy::HeldLists;
 /// buffers with their numbers and sizes, how many send numbers were given, the account of the pool,
 /// the loan of each pipe's last message, and the descriptor of each unsent buffer. By the code, all
 /// its memory is taken when it is made.
-#[derive(Drop)]
 pub struct BusStore<'r> {
     // The pipes with the descriptors of what waits on them, the subscriptions and the routes.
     pub(crate) tables: BusTables,
@@ -31,6 +30,18 @@ pub struct BusStore<'r> {
     pub(crate) lists: HeldLists,
     // How many send numbers were given.
     pub(crate) given: u64,
+}
+
+impl Drop for BusStore<'_> {
+    fn drop(self) {
+        let BusStore {
+            tables: _tables,
+            desk: _desk,
+            misses: _misses,
+            lists: _lists,
+            given: _given,
+        } = self;
+    }
 }
 
 impl<'r> Model for BusStore<'r> {

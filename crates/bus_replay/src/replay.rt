@@ -20,7 +20,6 @@ use std::alloc::{AllocError, Global};
 use std::marker::Model;
 
 /// The bus of a run of a script, as far as the lines of a report tell it.
-#[derive(Drop)]
 pub struct BusReplay<'s> {
     // The script.
     script: &'s Script,
@@ -32,6 +31,18 @@ pub struct BusReplay<'s> {
     places: Vec<AppPlace>,
     // The line of the latest entry.
     line: EntryLine,
+}
+
+impl Drop for BusReplay<'_> {
+    fn drop(self) {
+        let BusReplay {
+            script: _script,
+            bus: _bus,
+            entries: _entries,
+            places: _places,
+            line: _line,
+        } = self;
+    }
 }
 
 impl<'s> Model for BusReplay<'s> {

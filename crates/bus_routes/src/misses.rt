@@ -11,12 +11,20 @@ use std::marker::Model;
 /// What the message sent last left to be told and done: the pipes that missed it, or dropped their
 /// oldest message for it, in the order of its destinations; and those oldest messages. Contracts
 /// see both lists, and how many pipes there is room for.
-#[derive(Drop)]
 pub struct Misses {
     // The pipes, with room for as many as a message can have destinations.
     items: Vec<Miss>,
     // The messages that were dropped: at most one for each of the pipes, and room for as many.
     dropped: Vec<ItemRow>,
+}
+
+impl Drop for Misses {
+    fn drop(self) {
+        let Misses {
+            items: _items,
+            dropped: _dropped,
+        } = self;
+    }
 }
 
 impl Model for Misses {

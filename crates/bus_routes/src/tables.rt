@@ -37,7 +37,6 @@ pub struct LastItems {
 
 /// The pipes, subscriptions and routes of a bus. Contracts see each as a list, and the room that
 /// was taken for them.
-#[derive(Drop)]
 pub struct BusTables {
     // The pipes, with what waits on them.
     pub(crate) pipes: PipeTable,
@@ -45,6 +44,16 @@ pub struct BusTables {
     pub(crate) subs: Subs,
     // The routes: for each id that has one, its subscriptions and its sequence count.
     pub(crate) routes: Routes,
+}
+
+impl Drop for BusTables {
+    fn drop(self) {
+        let BusTables {
+            pipes: _pipes,
+            subs: _subs,
+            routes: _routes,
+        } = self;
+    }
 }
 
 impl Model for BusTables {

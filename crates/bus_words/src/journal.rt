@@ -23,10 +23,15 @@ struct Row {
 
 /// A list of entries with room for what each application's budget allows. By the code, all its
 /// memory is taken when it is made.
-#[derive(Drop)]
 pub struct BusJournal {
     // A row for each entry, in order.
     store: JournalStore<Row>,
+}
+
+impl Drop for BusJournal {
+    fn drop(self) {
+        let BusJournal { store: _store } = self;
+    }
 }
 
 impl Model for BusJournal {

@@ -134,12 +134,20 @@ impl Receipt {
 }
 
 /// The receipts of one application, in its own order. All its memory is taken when it is made.
-#[derive(Drop)]
 pub struct ReceiptList {
     // In order.
     receipts: Vec<Receipt>,
     // How many more fit.
     room: usize,
+}
+
+impl Drop for ReceiptList {
+    fn drop(self) {
+        let ReceiptList {
+            receipts: _receipts,
+            room: _room,
+        } = self;
+    }
 }
 
 impl Model for ReceiptList {

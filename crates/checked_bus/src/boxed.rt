@@ -15,12 +15,20 @@ use std::marker::Model;
 ///
 /// Contracts see the bus, and the bags from application 1 on. The block of an unsent buffer is
 /// outside of its bag, where its application writes it: the bag has zeros for its bytes.
-#[derive(Drop)]
 pub struct SbBox<'r> {
     // The bus.
     pub(crate) core: PlainBus<'r>,
     // The bag of each application, from application 1.
     pub(crate) bags: Vec<LentBag<'r>>,
+}
+
+impl Drop for SbBox<'_> {
+    fn drop(self) {
+        let SbBox {
+            core: _core,
+            bags: _bags,
+        } = self;
+    }
 }
 
 impl<'r> Model for SbBox<'r> {

@@ -14,12 +14,20 @@ use table_core::PlainTables;
 /// when they are made.
 ///
 /// Contracts see the tables, and the bags from application 1 on.
-#[derive(Drop)]
 pub struct TblBox<'r> {
     // The tables.
     pub(crate) core: PlainTables<'r>,
     // The bag of each application, from application 1.
     pub(crate) bags: Vec<HeldTables<'r>>,
+}
+
+impl Drop for TblBox<'_> {
+    fn drop(self) {
+        let TblBox {
+            core: _core,
+            bags: _bags,
+        } = self;
+    }
 }
 
 impl<'r> Model for TblBox<'r> {

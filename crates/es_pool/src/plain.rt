@@ -12,7 +12,6 @@ use std::marker::Model;
 /// A pool that keeps two numbers for each block size: how many blocks are out, and the greatest
 /// number that ever were. It adds up what was made at each request, so it is slow; it has no block
 /// numbers and no free lists.
-#[derive(Drop)]
 pub struct PlainPool {
     // The pool's bytes.
     bytes: u32,
@@ -26,6 +25,19 @@ pub struct PlainPool {
     requests: u32,
     // How many puts were refused; it stops at the largest number.
     errors: u32,
+}
+
+impl Drop for PlainPool {
+    fn drop(self) {
+        let PlainPool {
+            bytes: _bytes,
+            sizes: _sizes,
+            made: _made,
+            out: _out,
+            requests: _requests,
+            errors: _errors,
+        } = self;
+    }
 }
 
 impl Model for PlainPool {

@@ -21,7 +21,6 @@ const MOST_COST: u32 = MAX_BLOCK_SIZE + OVERHEAD;
 /// Contracts see its bytes, its block sizes, the blocks cut so far in order of their numbers, each
 /// with its class and whether it is out, and the counts of blocks drawn and of puts refused. A
 /// class is a block size, by its place.
-#[derive(Drop)]
 pub struct Pool {
     // The block sizes.
     sizes: BlockSizes,
@@ -50,6 +49,26 @@ pub struct Pool {
     made: Vec<u32>,
     // The free blocks of each class.
     free: Lists,
+}
+
+impl Drop for Pool {
+    fn drop(self) {
+        let Pool {
+            sizes: _sizes,
+            most: _most,
+            bytes: _bytes,
+            rest: _rest,
+            in_use: _in_use,
+            out: _out,
+            requests: _requests,
+            errors: _errors,
+            recent: _recent,
+            blocks: _blocks,
+            offsets: _offsets,
+            made: _made,
+            free: _free,
+        } = self;
+    }
 }
 
 impl Model for Pool {

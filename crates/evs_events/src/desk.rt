@@ -20,7 +20,6 @@ const APPS: usize = MAX_APPS as usize;
 ///
 /// By the code, no call but [`EventDesk::new`] takes memory, and a call looks at the filters of its
 /// own application alone, at most [`fsw_base::MAX_FILTERS`].
-#[derive(Drop)]
 pub struct EventDesk {
     // By application, number 1 first; None where it isn't registered.
     registrations: [Option<Registration>; APPS],
@@ -36,6 +35,20 @@ pub struct EventDesk {
     refused: u32,
     // Events that a full log lost, or lines that it dropped.
     lost: u32,
+}
+
+impl Drop for EventDesk {
+    fn drop(self) {
+        let EventDesk {
+            registrations: _registrations,
+            log: _log,
+            sent: _sent,
+            filtered: _filtered,
+            cut: _cut,
+            refused: _refused,
+            lost: _lost,
+        } = self;
+    }
 }
 
 impl Model for EventDesk {

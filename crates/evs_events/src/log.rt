@@ -57,12 +57,20 @@ impl LogMode {
 }
 
 /// The latest events that passed, at most [`LOG_LINES`].
-#[derive(Drop)]
 pub struct EventLog {
     // The oldest first.
     lines: HeapCircularBuffer<StoredLine>,
     // What a full log drops.
     mode: LogMode,
+}
+
+impl Drop for EventLog {
+    fn drop(self) {
+        let EventLog {
+            lines: _lines,
+            mode: _mode,
+        } = self;
+    }
 }
 
 impl Model for EventLog {

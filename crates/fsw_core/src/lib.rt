@@ -42,12 +42,20 @@ use std::alloc::{AllocError, Global};
 use step_count::{Blank, Ledger};
 
 /// The bus and the tables of the same applications.
-#[derive(Drop)]
 pub struct Core {
     /// The bus.
     pub bus: SbBox<'static>,
     /// The tables.
     pub tables: TblBox<'static>,
+}
+
+impl Drop for Core {
+    fn drop(self) {
+        let Core {
+            bus: _bus,
+            tables: _tables,
+        } = self;
+    }
 }
 
 impl Core {

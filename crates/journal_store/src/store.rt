@@ -24,7 +24,6 @@ struct KeptRow<R> {
 
 /// A list of rows, each of an application and with bytes of its own, with room for what each
 /// application's budget allows. Contracts see the budgets, and the rows in order.
-#[derive(Drop)]
 pub struct JournalStore<R: Drop> {
     // The rows in order.
     rows: Vec<KeptRow<R>>,
@@ -34,6 +33,17 @@ pub struct JournalStore<R: Drop> {
     budgets: Vec<Budget>,
     // What each application may still add; rows and bytes have room for all of it.
     left: Vec<Allowance>,
+}
+
+impl<R: Drop> Drop for JournalStore<R> {
+    fn drop(self) {
+        let JournalStore {
+            rows: _rows,
+            bytes: _bytes,
+            budgets: _budgets,
+            left: _left,
+        } = self;
+    }
 }
 
 impl<R: Drop> Model for JournalStore<R> {

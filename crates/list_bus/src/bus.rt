@@ -18,7 +18,6 @@ use std::alloc::{AllocError, Global};
 use std::marker::Model;
 
 /// A software bus of plain lists. Contracts see the limits and all of the state.
-#[derive(Drop)]
 pub struct ListBus {
     // The limits of the run.
     pub(crate) config: Config,
@@ -36,6 +35,21 @@ pub struct ListBus {
     pub(crate) desk: EventDesk,
     // The counters and the peaks.
     pub(crate) counters: Counters,
+}
+
+impl Drop for ListBus {
+    fn drop(self) {
+        let ListBus {
+            config: _config,
+            messages: _messages,
+            subs: _subs,
+            nexts: _nexts,
+            standings: _standings,
+            pools: _pools,
+            desk: _desk,
+            counters: _counters,
+        } = self;
+    }
 }
 
 impl Model for ListBus {

@@ -30,7 +30,6 @@ use std::marker::Model;
 /// Contracts see them, and of each send number how often it is named. That pipes and buffers name
 /// it so often (`IsKept`) is a condition of each call, and holds after each that isn't ended by an
 /// `AllocError`.
-#[derive(Drop)]
 pub struct ListMessages {
     // The live pipes.
     pipes: Vec<ListPipe>,
@@ -42,6 +41,18 @@ pub struct ListMessages {
     given: u32,
     // How often each is named, and the pool's account.
     sends: ListSends,
+}
+
+impl Drop for ListMessages {
+    fn drop(self) {
+        let ListMessages {
+            pipes: _pipes,
+            created: _created,
+            unsent: _unsent,
+            given: _given,
+            sends: _sends,
+        } = self;
+    }
 }
 
 impl Model for ListMessages {

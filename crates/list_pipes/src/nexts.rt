@@ -41,10 +41,15 @@ impl ListNext {
 }
 
 /// The next counts, in order of routes.
-#[derive(Drop)]
 pub struct ListNexts {
     // Each with its id.
     nexts: Vec<ListNext>,
+}
+
+impl Drop for ListNexts {
+    fn drop(self) {
+        let ListNexts { nexts: _nexts } = self;
+    }
 }
 
 impl Model for ListNexts {

@@ -15,7 +15,6 @@ use std::alloc::{AllocError, Global};
 use std::marker::Model;
 
 /// A live pipe.
-#[derive(Drop)]
 pub struct ListPipe {
     // Its number.
     number: u32,
@@ -31,6 +30,20 @@ pub struct ListPipe {
     queue: Vec<ListItem>,
     // What was received last.
     last: Option<ListItem>,
+}
+
+impl Drop for ListPipe {
+    fn drop(self) {
+        let ListPipe {
+            number: _number,
+            name: _name,
+            owner: _owner,
+            depth: _depth,
+            bits: _bits,
+            queue: _queue,
+            last: _last,
+        } = self;
+    }
 }
 
 impl Model for ListPipe {

@@ -61,7 +61,6 @@ impl ListSubscription {
 }
 
 /// The live subscriptions, how many were made, and the ids that have a route.
-#[derive(Drop)]
 pub struct ListSubscriptions {
     // In order of number.
     subscriptions: Vec<ListSubscription>,
@@ -69,6 +68,16 @@ pub struct ListSubscriptions {
     made: u32,
     // The ids that have a route, in order.
     routed: Vec<u16>,
+}
+
+impl Drop for ListSubscriptions {
+    fn drop(self) {
+        let ListSubscriptions {
+            subscriptions: _subscriptions,
+            made: _made,
+            routed: _routed,
+        } = self;
+    }
 }
 
 impl Model for ListSubscriptions {

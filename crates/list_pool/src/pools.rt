@@ -18,7 +18,6 @@ const MAX_POOLS: usize = 8;
 /// any of them.
 ///
 /// Contracts see of each pool its account, how many grants it gave, and those that are out.
-#[derive(Drop)]
 pub struct GrantPools {
     // The most bytes that a pool may have.
     most: u32,
@@ -26,6 +25,16 @@ pub struct GrantPools {
     sizes: BlockSizes,
     // The pools that were created.
     pools: Vec<GrantPool>,
+}
+
+impl Drop for GrantPools {
+    fn drop(self) {
+        let GrantPools {
+            most: _most,
+            sizes: _sizes,
+            pools: _pools,
+        } = self;
+    }
 }
 
 impl Model for GrantPools {

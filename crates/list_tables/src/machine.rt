@@ -15,7 +15,6 @@ use std::marker::Model;
 use tbl_words::{TblAnswer, TblCall};
 
 /// Table Services of plain lists. Contracts see the limits and the machine's state.
-#[derive(Drop)]
 pub struct ListTables {
     // The limits of the run.
     pub(crate) config: Config,
@@ -31,6 +30,20 @@ pub struct ListTables {
     pub(crate) made: Vec<u32>,
     // How many blocks were drawn; it stops at the largest number.
     pub(crate) drawn: u32,
+}
+
+impl Drop for ListTables {
+    fn drop(self) {
+        let ListTables {
+            config: _config,
+            tables: _tables,
+            handles: _handles,
+            handles_made: _handles_made,
+            ended: _ended,
+            made: _made,
+            drawn: _drawn,
+        } = self;
+    }
 }
 
 impl Model for ListTables {

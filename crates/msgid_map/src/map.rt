@@ -17,12 +17,20 @@ const PLACES: usize = 0x2000;
 
 /// A route for each of some message ids. Contracts see the finite map from ids to routes, how many
 /// ids have one, and how many ids more there is room for.
-#[derive(Drop)]
 pub struct IdMap {
     // At each id, its route and one more; 0 where it has none. There are [`PLACES`] of them.
     places: Vec<u16>,
     // How many ids more may be inserted.
     room: u32,
+}
+
+impl Drop for IdMap {
+    fn drop(self) {
+        let IdMap {
+            places: _places,
+            room: _room,
+        } = self;
+    }
 }
 
 impl Model for IdMap {

@@ -9,7 +9,6 @@ use std::marker::Model;
 
 /// What waits in a pipe, and what was received last. Contracts see the room, the depth, the items
 /// that wait, oldest first, and the last one.
-#[derive(Drop)]
 pub struct PipeQueue {
     // How many items may wait; 0 before the first start. The ring has room for them.
     depth: u32,
@@ -17,6 +16,16 @@ pub struct PipeQueue {
     ring: HeapCircularBuffer<Item>,
     // The item received last.
     last: Option<Item>,
+}
+
+impl Drop for PipeQueue {
+    fn drop(self) {
+        let PipeQueue {
+            depth: _depth,
+            ring: _ring,
+            last: _last,
+        } = self;
+    }
 }
 
 impl Model for PipeQueue {

@@ -16,7 +16,6 @@ use std::alloc::{AllocError, Global};
 use std::marker::Model;
 
 /// The live pipes, by number. Contracts see them in order of number.
-#[derive(Drop)]
 pub struct PipeTable {
     // The places, one for each pipe that may be live, with a queue of the greatest depth each.
     places: Vec<Place>,
@@ -30,6 +29,19 @@ pub struct PipeTable {
     created: u32,
     // The greatest depth of a pipe.
     depth: u32,
+}
+
+impl Drop for PipeTable {
+    fn drop(self) {
+        let PipeTable {
+            places: _places,
+            free: _free,
+            live: _live,
+            at: _at,
+            created: _created,
+            depth: _depth,
+        } = self;
+    }
 }
 
 impl Model for PipeTable {

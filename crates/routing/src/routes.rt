@@ -20,7 +20,6 @@ use subscriptions::SubNo;
 /// number is its place, and no route is ever removed. Of a route they see its id, how many counts
 /// it has given, modulo 16384, and its destinations in order of subscription, each with its node;
 /// no node is in two places.
-#[derive(Drop)]
 pub struct Routes {
     // The number of each id's route.
     numbers: IdMap,
@@ -39,6 +38,21 @@ pub struct Routes {
     msgids: u32,
     // How many destinations a route may have.
     limit: u32,
+}
+
+impl Drop for Routes {
+    fn drop(self) {
+        let Routes {
+            numbers: _numbers,
+            ids: _ids,
+            counted: _counted,
+            dests: _dests,
+            starts: _starts,
+            firsts: _firsts,
+            msgids: _msgids,
+            limit: _limit,
+        } = self;
+    }
 }
 
 impl Model for Routes {

@@ -22,13 +22,21 @@ use std::marker::Model;
 
 /// The software bus of up to 16 applications, with its journal. By the code, all its memory is
 /// taken when it is made.
-#[derive(Drop)]
 pub struct BusCore<'r> {
     // The bus after the journal's entries.
     pub(crate) core: PlainBus<'r>,
     // Every call with its answer, in order, and what it gave: the loan of a view, or a buffer's
     // descriptor.
     pub(crate) noted: NotedJournal,
+}
+
+impl Drop for BusCore<'_> {
+    fn drop(self) {
+        let BusCore {
+            core: _core,
+            noted: _noted,
+        } = self;
+    }
 }
 
 impl<'r> Model for BusCore<'r> {

@@ -29,9 +29,14 @@ impl Model for Buffer {
 }
 
 /// What an application wrote into its unsent buffers.
-#[derive(Drop)]
 pub struct Buffers {
     rows: Vec<Buffer>,
+}
+
+impl Drop for Buffers {
+    fn drop(self) {
+        let Buffers { rows: _rows } = self;
+    }
 }
 
 impl Model for Buffers {

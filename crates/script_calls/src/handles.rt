@@ -9,9 +9,14 @@ use tbl_words::TblAnswer;
 
 /// An application's registers of table handles, `t0` to `t63`, which hold the numbers that its
 /// calls of the tables answered.
-#[derive(Drop)]
 pub struct Handles {
     handles: [u32; REGISTERS],
+}
+
+impl Drop for Handles {
+    fn drop(self) {
+        let Handles { handles: _handles } = self;
+    }
 }
 
 impl Model for Handles {

@@ -11,7 +11,6 @@ use std::marker::Model;
 const POOL_REGISTERS: usize = 8;
 
 /// An application's registers of what the bus numbers, which hold what its calls answered.
-#[derive(Drop)]
 pub struct Registers {
     // Of pipes, `p0` to `p63`.
     pipes: [u32; REGISTERS],
@@ -21,6 +20,17 @@ pub struct Registers {
     pools: [u32; POOL_REGISTERS],
     // Of the pools' grants, `m0` to `m63`.
     grants: [u32; REGISTERS],
+}
+
+impl Drop for Registers {
+    fn drop(self) {
+        let Registers {
+            pipes: _pipes,
+            buffers: _buffers,
+            pools: _pools,
+            grants: _grants,
+        } = self;
+    }
 }
 
 impl Model for Registers {

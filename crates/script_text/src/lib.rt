@@ -19,11 +19,11 @@
 //!
 //! # Proved
 //!
-//! - `print_line` puts a line's spelling (`line_text`) on the page. The spelling of every line that a
-//!   script can have reads as that line (`printed_lines_read_back`).
+//! - `print_line` puts a line's spelling (`line_text`) on the page. The spelling of every line that
+//!   a script can have reads as that line (`printed_lines_read_back`).
 //! - `print_script` writes a script's one spelling, or a front of it if the sink fails. If it has
-//!   at most 1,048,576 bytes, it reads as that script (clause `reads_back`; for the spelling of every
-//!   script that a text can be, `printed_scripts_read_back`).
+//!   at most 1,048,576 bytes, it reads as that script (clause `reads_back`; for the spelling of
+//!   every script that a text can be, `printed_scripts_read_back`).
 //! - `generate` answers exactly the script that the definition draws for the number (`generated`),
 //!   unless memory runs out. Each is one that a text can be (`IsScript`), with at most 3012 call
 //!   lines (`generated_scripts_are_in_range`), and its spelling reads back

@@ -14,7 +14,6 @@ use std::marker::Model;
 
 /// The live subscriptions. Contracts see how many may be live at once, how many were made so far,
 /// and those that are live, in order of number.
-#[derive(Drop)]
 pub struct Subs {
     // What each slot that was ever used holds; None where it is free. Each subscription has a
     // number of its own.
@@ -25,6 +24,17 @@ pub struct Subs {
     made: u32,
     // How many slots there may be. Both lists have room for as many.
     room: u32,
+}
+
+impl Drop for Subs {
+    fn drop(self) {
+        let Subs {
+            slots: _slots,
+            free: _free,
+            made: _made,
+            room: _room,
+        } = self;
+    }
 }
 
 impl Model for Subs {

@@ -18,7 +18,6 @@ use std::marker::Model;
 /// A table is named by a key below the number that `new` was given. Contracts see the pool's
 /// account, what is kept for each table by its key, and how many working buffers are free. By the
 /// code, no call takes memory after `new`.
-#[derive(Drop)]
 pub struct TableBlocks<'r> {
     // The pool, with the memory of its blocks.
     pub(crate) memory: PoolMemory<'r>,
@@ -28,6 +27,17 @@ pub struct TableBlocks<'r> {
     pub(crate) tables: Vec<Option<Table<'r>>>,
     // The working buffers that no table has.
     pub(crate) work: Vec<Space<'r>>,
+}
+
+impl Drop for TableBlocks<'_> {
+    fn drop(self) {
+        let TableBlocks {
+            memory: _memory,
+            most: _most,
+            tables: _tables,
+            work: _work,
+        } = self;
+    }
 }
 
 impl<'r> Model for TableBlocks<'r> {

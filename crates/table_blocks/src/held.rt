@@ -13,10 +13,15 @@ use std::marker::Model;
 ///
 /// Contracts see a finite map from handles to views, and for how many there is room. A look-up
 /// reads about log n of the n views.
-#[derive(Drop)]
 pub struct HeldTables<'r> {
     // The views, in a bag that has no room for anything else.
     bag: Held<'r>,
+}
+
+impl Drop for HeldTables<'_> {
+    fn drop(self) {
+        let HeldTables { bag: _bag } = self;
+    }
 }
 
 impl<'r> Model for HeldTables<'r> {

@@ -14,7 +14,6 @@ use step_count::{Ledger, Steps};
 
 /// A pool and the memory of its blocks, which are cut from a region. Contracts see the pool's
 /// account, and whose each block is.
-#[derive(Drop)]
 pub struct PoolMemory<'r> {
     // Which blocks are out.
     pool: Pool,
@@ -22,6 +21,16 @@ pub struct PoolMemory<'r> {
     slots: Vec<Slot<'r>>,
     // The part of the region that was never cut.
     rest: Space<'r>,
+}
+
+impl Drop for PoolMemory<'_> {
+    fn drop(self) {
+        let PoolMemory {
+            pool: _pool,
+            slots: _slots,
+            rest: _rest,
+        } = self;
+    }
 }
 
 impl<'r> Model for PoolMemory<'r> {

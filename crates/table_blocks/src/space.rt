@@ -7,10 +7,15 @@ use std::mem;
 
 /// Memory that nobody reads: a free block, the rest of the region, or a working buffer. Contracts
 /// see its bytes.
-#[derive(Drop)]
 pub struct Space<'r> {
     // All of it.
     bytes: &'r mut [u8],
+}
+
+impl Drop for Space<'_> {
+    fn drop(self) {
+        let Space { bytes: _bytes } = self;
+    }
 }
 
 impl<'r> Model for Space<'r> {

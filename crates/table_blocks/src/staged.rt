@@ -7,7 +7,6 @@ use std::marker::Model;
 
 /// A value that was loaded and isn't the table's yet: the first bytes of memory that nobody else
 /// has.
-#[derive(Drop)]
 pub struct StagedBytes<'r> {
     // The memory that it lies in.
     space: Space<'r>,
@@ -15,6 +14,16 @@ pub struct StagedBytes<'r> {
     len: usize,
     // Whether it was validated.
     validated: bool,
+}
+
+impl Drop for StagedBytes<'_> {
+    fn drop(self) {
+        let StagedBytes {
+            space: _space,
+            len: _len,
+            validated: _validated,
+        } = self;
+    }
 }
 
 impl<'r> Model for StagedBytes<'r> {

@@ -28,7 +28,6 @@ use lend_block::View;
 use std::marker::Model;
 
 /// One table: its blocks, the present version, and what lies beside it.
-#[derive(Drop)]
 pub struct Table<'r> {
     // Its bytes.
     size: u32,
@@ -46,6 +45,20 @@ pub struct Table<'r> {
     present: Version<'r>,
     // What lies beside it.
     next: Next<'r>,
+}
+
+impl Drop for Table<'_> {
+    fn drop(self) {
+        let Table {
+            size: _size,
+            option: _option,
+            version: _version,
+            first: _first,
+            second: _second,
+            present: _present,
+            next: _next,
+        } = self;
+    }
 }
 
 impl<'r> Model for Table<'r> {

@@ -7,10 +7,15 @@ use lend_block::{Root, View};
 use std::marker::Model;
 
 /// A version that is lent: nobody writes its bytes as long as it is sealed.
-#[derive(Drop)]
 pub struct Version<'r> {
     // Its loan.
     root: Root<'r>,
+}
+
+impl Drop for Version<'_> {
+    fn drop(self) {
+        let Version { root: _root } = self;
+    }
 }
 
 impl<'r> Model for Version<'r> {

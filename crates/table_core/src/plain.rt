@@ -11,7 +11,6 @@ use tbl_registry::Registry;
 
 /// The tables of up to 16 applications, without a journal. By the code, all its memory is taken
 /// when it is made.
-#[derive(Drop)]
 pub struct PlainTables<'r> {
     // The limits that it was made with.
     pub(crate) config: Config,
@@ -21,6 +20,17 @@ pub struct PlainTables<'r> {
     pub(crate) registry: Registry,
     // What the tables contain, by the registry's keys.
     pub(crate) blocks: TableBlocks<'r>,
+}
+
+impl Drop for PlainTables<'_> {
+    fn drop(self) {
+        let PlainTables {
+            config: _config,
+            ended: _ended,
+            registry: _registry,
+            blocks: _blocks,
+        } = self;
+    }
 }
 
 impl<'r> Model for PlainTables<'r> {

@@ -18,7 +18,6 @@ use std::marker::Model;
 use tbl_words::{TblEntry, TblUse};
 
 /// The tables of a run of a script, as far as the lines of a report tell it.
-#[derive(Drop)]
 pub struct TableReplay<'s> {
     // The script.
     script: &'s Script,
@@ -32,6 +31,19 @@ pub struct TableReplay<'s> {
     places: Vec<AppPlace>,
     // The line of the latest entry.
     line: EntryLine,
+}
+
+impl Drop for TableReplay<'_> {
+    fn drop(self) {
+        let TableReplay {
+            script: _script,
+            tables: _tables,
+            peak: _peak,
+            entries: _entries,
+            places: _places,
+            line: _line,
+        } = self;
+    }
 }
 
 impl<'s> Model for TableReplay<'s> {

@@ -25,12 +25,20 @@ use tbl_words::{TblJournal, TblUse};
 
 /// The tables of up to 16 applications, with their journal. By the code, all its memory is taken
 /// when it is made.
-#[derive(Drop)]
 pub struct TblCore<'r> {
     // The tables after the journal's entries.
     pub(crate) core: PlainTables<'r>,
     // Every call with its answer, in order, and the loan of the view that it gave.
     pub(crate) noted: NotedJournal,
+}
+
+impl Drop for TblCore<'_> {
+    fn drop(self) {
+        let TblCore {
+            core: _core,
+            noted: _noted,
+        } = self;
+    }
 }
 
 impl<'r> Model for TblCore<'r> {

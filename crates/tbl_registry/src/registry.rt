@@ -15,7 +15,6 @@ use std::marker::Model;
 use tbl_rules::RuleList;
 
 /// The tables that there are, and the live handles. Contracts see both in order of number.
-#[derive(Drop)]
 pub struct Registry {
     // The tables, each in the place that is its key.
     shelf: Shelf,
@@ -27,6 +26,18 @@ pub struct Registry {
     made: u32,
     // How many handles may be live.
     room: u32,
+}
+
+impl Drop for Registry {
+    fn drop(self) {
+        let Registry {
+            shelf: _shelf,
+            keys: _keys,
+            handles: _handles,
+            made: _made,
+            room: _room,
+        } = self;
+    }
 }
 
 impl Model for Registry {

@@ -20,10 +20,15 @@ struct Row {
 
 /// A list of entries with room for what each application's budget allows. By the code, all its
 /// memory is taken when it is made.
-#[derive(Drop)]
 pub struct TblJournal {
     // A row for each entry, in order.
     store: JournalStore<Row>,
+}
+
+impl Drop for TblJournal {
+    fn drop(self) {
+        let TblJournal { store: _store } = self;
+    }
 }
 
 impl Model for TblJournal {

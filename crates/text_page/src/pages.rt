@@ -13,10 +13,15 @@ use std::marker::Model;
 pub const PAGE_BYTES: usize = 4096;
 
 /// Text that waits to be written.
-#[derive(Drop)]
 pub struct Page {
     // Put, and not yet written.
     text: ArrayVec<u8, PAGE_BYTES>,
+}
+
+impl Drop for Page {
+    fn drop(self) {
+        let Page { text: _text } = self;
+    }
 }
 
 impl Model for Page {

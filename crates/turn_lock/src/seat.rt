@@ -17,12 +17,20 @@ use std::mem;
 /// Contracts see which lock it is of, what it knows, which is nothing while its turn is out, and
 /// whether it left its last turn to sleep and hasn't slept since: it has to, or was kept awake. The
 /// type names neither the lock's value nor a lifetime.
-#[derive(Drop)]
 pub struct Seat<F, E> {
     // The seat of the lock's table, which has no bytes.
     badge: Badge<View<F, E>>,
     // Whether it has to sleep before its next turn.
     rest: Rest,
+}
+
+impl<F, E> Drop for Seat<F, E> {
+    fn drop(self) {
+        let Seat {
+            badge: _badge,
+            rest: _rest,
+        } = self;
+    }
 }
 
 /// Whether a seat has to sleep before its next turn.

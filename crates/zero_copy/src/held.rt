@@ -21,7 +21,6 @@ use step_count::{Ledger, Steps};
 ///
 /// Each list is a ring through the descriptors and an anchor of its own, so letting go of any
 /// descriptor needs no search.
-#[derive(Drop)]
 pub struct HeldLists {
     // At each descriptor in a list, the one behind it; at its last one, the anchor. Behind the
     // descriptors stand the anchors, in order of application: at each the first of its list, or
@@ -35,6 +34,18 @@ pub struct HeldLists {
     counts: Vec<u32>,
     // At each descriptor, the number of the application that holds it, or 0.
     owners: Vec<u32>,
+}
+
+impl Drop for HeldLists {
+    fn drop(self) {
+        let HeldLists {
+            next: _next,
+            prev: _prev,
+            descs: _descs,
+            counts: _counts,
+            owners: _owners,
+        } = self;
+    }
 }
 
 impl Model for HeldLists {
