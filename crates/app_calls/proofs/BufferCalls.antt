@@ -108,7 +108,7 @@ leaves-given core now app size old new (Ok number) c zeros keeps refused = recor
   room = rest-room old new c.rest;
 }
 
--- where a buffer has left the others stay
+-- if a buffer has left the others stay
 none-left : (found : Option (List ℕ)) → option_map (λ bytes. length bytes) found ≡ None → found ≡ None
 none-left None is = refl
 none-left (Some bytes) is = absurd (cc is)

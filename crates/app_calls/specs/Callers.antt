@@ -40,7 +40,7 @@ pub record Caller : Type 0 where
 abbrev pub HasOwnBag : Caller → Type 0
 HasOwnBag caller = HasBag caller.core caller.app caller.bag
 
--- This is the bus that the application's next call meets: the one last seen; or, where the calls
+-- This is the bus that the application's next call meets: the one last seen; or, if the calls
 -- aren't alone, that one with entries of others.
 abbrev pub Meets : Caller → Core → Type 0
 Meets caller now =
@@ -103,7 +103,7 @@ pub record Answers (old new : Caller) (call : Call) (answer : BusAnswer) : Type 
   pub others : KeepsTables old new
   pub same : SameServices old new
 
--- The same for a look, which makes no entry where the application still waits.
+-- The same for a look, which makes no entry if the application still waits.
 pub record AnswersLook (old new : Caller) (pipe : ℕ) (answer : Pended) : Type 0 where
   pub now : Core
   pub meets : Meets old now

@@ -11,7 +11,7 @@ use Rattle.app_calls.specs.Callers.{Caller, SameServices}
 abbrev pub HasOwnTables : Caller → Type 0
 HasOwnTables caller = HasBag caller.tables caller.app caller.held
 
--- These are the tables that the application's next call meets: those last seen; or, where the calls
+-- These are the tables that the application's next call meets: those last seen; or, if the calls
 -- aren't alone, those with entries of others.
 abbrev pub MeetsTables : Caller → Core → Type 0
 MeetsTables caller now =

@@ -9,7 +9,7 @@ use crate::messages::{make_message, put_in};
 use buf_desc::{Held, recall_written};
 
 /// Makes the whole of a buffer a message of this id, with sequence count 0 and a payload that
-/// counts up from `fill`; nothing where the bag has no buffer of this number.
+/// counts up from `fill`; nothing if the bag has no buffer of this number.
 pub(crate) fn form_in(held: &mut Held<'_>, buf: u32, id: u16, fill: u8)
     requires { (bytes : List ℕ) → written_in held.old buf ≡ Some bytes →
         (7 ≤ length bytes) × (length bytes ≤ 65542) }
@@ -23,7 +23,7 @@ pub(crate) fn form_in(held: &mut Held<'_>, buf: u32, id: u16, fill: u8)
     }
 }
 
-/// Writes bytes into a buffer, from an offset on; nothing where they don't fit, or the bag has no
+/// Writes bytes into a buffer, from an offset on; nothing if they don't fit, or the bag has no
 /// buffer of this number.
 pub(crate) fn put_bytes_in(held: &mut Held<'_>, buf: u32, offset: u32, bytes: &[u8])
     ensures { WritesBag held.old held.new

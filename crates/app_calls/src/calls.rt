@@ -21,7 +21,7 @@ use tbl_words::{Call as TableCall, TblAnswer, TblCall};
 ///
 /// Each call has the condition, the answer and the refusals of its core's call of the same name
 /// (`bus_end` and `table_end` those of `end`), with the application's bag there, on the service as
-/// it is then: as the calls before left it or, where they aren't alone with it, with what other
+/// it is then: as the calls before left it or, if they aren't alone with it, with what other
 /// applications did meanwhile. A call of one service leaves the other as it was. By the code, no
 /// call takes memory.
 pub trait Calls {
@@ -251,12 +251,13 @@ pub trait Calls {
         ensures { Answers (caller self.old) (caller self.new) Call.End BusAnswer.Done };
 
     /// The message that the application received last from its live pipe of this number, as its
-    /// bag shows it; None exactly where the bag has no view of that pipe. It is no call of the bus.
+    /// bag shows it; None if and only if the bag has no view of that pipe. It is no call of the
+    /// bus.
     fn last(&self, pipe: u32) -> Option<&[u8]>
         ensures { option_map (λ bytes. bytes.now) result ≡ bytes_seen (caller self.now).bag pipe };
 
     /// Makes the whole of a buffer that the application hasn't sent a message of this id, with
-    /// sequence count 0 and a payload that counts up from `fill`; nothing where the application has
+    /// sequence count 0 and a payload that counts up from `fill`; nothing if the application has
     /// no such buffer. It is no call of the bus.
     fn form_buffer(&mut self, buf: u32, id: u16, fill: u8)
         requires { MayWrite (caller self.old) }
@@ -265,7 +266,7 @@ pub trait Calls {
             (λ old. sent_message id (length old) fill)) };
 
     /// Writes bytes into a buffer that the application hasn't sent, from an offset on; nothing
-    /// where they don't fit, or the application has no such buffer. It is no call of the bus.
+    /// if they don't fit, or the application has no such buffer. It is no call of the bus.
     fn put_bytes(&mut self, buf: u32, offset: u32, bytes: &[u8])
         requires { MayWrite (caller self.old) }
         ensures { Writes (caller self.old) (caller self.new)
@@ -285,7 +286,7 @@ pub trait Calls {
         ensures { TablesAnswer (caller self.old) (caller self.new) TableCall.End TblAnswer.Done };
 
     /// The bytes that a handle of the application's holds, as its bag shows them; None exactly
-    /// where the bag has no view of that handle. It is no call of the tables.
+    /// if the bag has no view of that handle. It is no call of the tables.
     fn held(&self, handle: u32) -> Option<&[u8]>
         ensures { option_map (λ bytes. bytes.now) result ≡
             held_bytes_seen (caller self.now).held handle };

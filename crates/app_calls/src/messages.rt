@@ -25,7 +25,7 @@ pub fn fill_payload(payload: &mut [u8], fill: u8)
     }
 }
 
-/// Writes the bytes from an offset on, where they fit.
+/// Writes the bytes from an offset on, if they fit.
 pub(crate) fn put_in(target: &mut [u8], offset: u32, bytes: &[u8])
     ensures { target.new ≡ put_in target.old offset bytes.now }
 {

@@ -1,4 +1,4 @@
--- The grants and the blocks of a pool stay tied where a grant is given and where one comes back.
+-- The grants and the blocks of a pool stay tied if a grant is given and if one comes back.
 use Rattle.std.proofs.Common.{◌≡◌, ◌≢◌, ℕ, ◌+◌, ◌/◌, ◌<◌, ◌≤◌, ◌&&◌, ◌⊎◌, inl, inr, Bool, true, false, not, cond, leb, Option, Some, None, Ok, Err, List, [], ◌∷◌, ◌++◌, length, get_or, map, refl, ap, sym, subst, ◌∙◌, arith}
 use Rattle.std.specs.List.{remove}
 use Rattle.std.proofs.lemmas.Bool.{false≢true, cases_lt}

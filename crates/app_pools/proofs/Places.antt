@@ -141,7 +141,7 @@ module _ (most made : ℕ) (sizes : List ℕ) (places : List PoolGrants) (o : Ar
         there : (i : ℕ) → made ≤ i → made + (i - made) ≡ i
         there i above = omega (arith, above)
 
--- an answer where there is a pool, and where there is none
+-- an answer if there is a pool, and if there is none
 pub answer_there : {A : Type 0} (s : Pools) (pool : ℕ) (r a : Result A EsStatus) → is_pool s pool ≡ true → r ≡ a → r ≡ answer_in s pool a
 answer_there s pool r a is e = e ∙ sym (ap (λ b. cond b a (Err NoPool)) is)
 

@@ -68,7 +68,7 @@ impl AppPool {
     /// here.
     ///
     /// # Errors
-    /// `AllocError` where memory runs out.
+    /// `AllocError` if memory runs out.
     pub(crate) fn new(alloc: Global, bytes: u32, sizes: BlockSizes) -> Result<AppPool, AllocError>
         ensures { IfOk result (λ pool. pool ≡ new_pool sizes bytes) }
     {
@@ -94,7 +94,7 @@ impl AppPool {
     /// Gives an application a grant of a block for `size` bytes, and answers its number.
     ///
     /// # Errors
-    /// `ErrMemBlockSize` exactly where no block size is large enough, or there is no room for one
+    /// `ErrMemBlockSize` if and only if no block size is large enough, or there is no room for one
     /// more block of the smallest that is.
     pub(crate) fn get<L: Ledger>(
         &mut self,
@@ -126,8 +126,8 @@ impl AppPool {
     /// Takes a grant back, whoever has it: its block is free then. A refused return is counted.
     ///
     /// # Errors
-    /// `BufferNotInPool` exactly where the grant was never given, `PoolBlockInvalid` exactly where
-    /// it was and isn't out any more.
+    /// `BufferNotInPool` if and only if the grant was never given, `PoolBlockInvalid` if and only
+    /// if it was and isn't out any more.
     pub(crate) fn put<L: Ledger>(
         &mut self,
         grant: u64,
@@ -212,7 +212,7 @@ impl AppPool {
     }
 }
 
-// Whether a grant of this number was given, where so many were.
+// Whether a grant of this number was given, if so many were.
 fn was_given(given: u64, number: u64) -> bool
     ensures { result ≡ (nat_le 1 number && nat_le number given) }
 {

@@ -59,7 +59,7 @@ impl AppPools {
     /// sizes. By the code, no later call takes memory.
     ///
     /// # Errors
-    /// `AllocError` where memory runs out.
+    /// `AllocError` if memory runs out.
     pub fn new(alloc: Global, config: &Config) -> Result<AppPools, AllocError>
         ensures { IfOk result
             (λ s. s ≡ record { most = config.now.apppool; sizes = config.now.sizes; pools = [] }) }
@@ -76,7 +76,7 @@ impl AppPools {
     /// Creates a pool of `bytes` bytes, and answers its number, from 1 (cFE `CFE_ES_PoolCreate`).
     ///
     /// # Errors
-    /// `ErrMemBlockSize` exactly where [`MAX_APP_POOLS`] exist, or `bytes` is more than a pool may
+    /// `ErrMemBlockSize` if and only if [`MAX_APP_POOLS`] exist, or `bytes` is more than a pool may
     /// have, or too few for a block of the smallest size.
     pub fn create(&mut self, bytes: u32) -> Result<u32, EsStatus>
         ensures answer { result ≡ create_answer self.old bytes }
@@ -94,8 +94,8 @@ impl AppPools {
     /// number, from 1 by pool (cFE `CFE_ES_GetPoolBuf`). At most 8 steps.
     ///
     /// # Errors
-    /// `NoPool` exactly where there is no such pool; then `ErrMemBlockSize` exactly where no block
-    /// size is large enough, or there is no room for one more block of the smallest that is.
+    /// `NoPool` if and only if there is no such pool; then `ErrMemBlockSize` if and only if no
+    /// block size is large enough, or there is no room for one more block of the smallest that is.
     pub fn get<L: Ledger>(
         &mut self,
         app: AppNo,
@@ -120,8 +120,8 @@ impl AppPools {
     /// `CFE_ES_PutPoolBuf`). A refused return is counted among the pool's errors. At most 8 steps.
     ///
     /// # Errors
-    /// `NoPool` exactly where there is no such pool; then `BufferNotInPool` exactly where it never
-    /// gave the grant; then `PoolBlockInvalid` exactly where the grant isn't out any more.
+    /// `NoPool` if and only if there is no such pool; then `BufferNotInPool` if and only if it
+    /// never gave the grant; then `PoolBlockInvalid` if and only if the grant isn't out any more.
     pub fn put<L: Ledger>(
         &mut self,
         pool: u32,
@@ -167,7 +167,7 @@ impl AppPools {
     /// (cFE `CFE_ES_GetMemPoolStats`).
     ///
     /// # Errors
-    /// `NoPool` exactly where there is no such pool.
+    /// `NoPool` if and only if there is no such pool.
     pub fn stats(&self, pool: u32) -> Result<PoolStats, EsStatus>
         ensures { result ≡ answer_in self.now pool (Ok (figures_of (pool_in self.now pool))) }
     {
@@ -227,7 +227,7 @@ impl AppPools {
         MAX_APP_POOLS <= self.made || self.most < bytes || bytes < least_bytes(&self.sizes)
     }
 
-    // Where a pool stands; None where there is none of this number.
+    // Where a pool stands; None if there is none of this number.
     fn place_of(&self, pool: u32) -> Option<usize>
         ensures some { IfSome result (λ place. IsPlace self.now pool place) }
         ensures none { result ≡ None → is_pool self.now pool ≡ false }

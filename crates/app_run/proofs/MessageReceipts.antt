@@ -74,7 +74,7 @@ module _ (caller : Caller) (pipe : ℕ) (bag : HasOwnBag caller) where
       by_last None none = refl
       by_last (Some item) none = absurd cc
 
-  -- where a message is seen, there is a newest receipt of it, which has its number
+  -- if a message is seen, there is a newest receipt of it, which has its number
   module _ (receipts : List Receipt) (bytes : List ℕ) (remember : Remember receipts (state_of caller.core) caller.app) (seen : Some bytes ≡ bytes_seen caller.bag pipe) where
     read : (item : Item) × (last_item ≡ Some item) × (bytes ≡ item.message)
     read = read-last last_item bytes (seen ∙ seen-own caller.core caller.app pipe caller.bag bag)

@@ -45,7 +45,7 @@ newest-append (receipt ∷ newer) more pipe =
     ap (λ o. option_or o (number_from receipt pipe)) (newest-append newer more pipe)
     ∙ or-assoc (newest_number more pipe) (newest_number newer pipe) (number_from receipt pipe)
 
--- the newest of the receipts from a place on, where none behind that place is from the pipe
+-- the newest of the receipts from a place on, if none behind that place is from the pipe
 newest-from : (receipts : List Receipt) (place : ℕ) (receipt : Receipt) (pipe : ℕ) → slice_get receipts place ≡ Some receipt →
     newest_number (drop (suc place) receipts) pipe ≡ None → newest_number (drop place receipts) pipe ≡ number_from receipt pipe
 newest-from [] place receipt pipe here none = absurd (cc here)
@@ -53,7 +53,7 @@ newest-from (first ∷ newer) zero receipt pipe here none =
     ap (λ o. option_or o (number_from first pipe)) none ∙ ap (λ r. number_from r pipe) (cc here)
 newest-from (first ∷ newer) (suc place) receipt pipe here none = newest-from newer place receipt pipe here none
 
--- is the newest of all, where it is there
+-- is the newest of all, if it is there
 newest-all : (receipts : List Receipt) (place pipe number : ℕ) → newest_number (drop place receipts) pipe ≡ Some number → newest_number receipts pipe ≡ Some number
 newest-all receipts zero pipe number is = is
 newest-all [] (suc place) pipe number is = is
@@ -119,7 +119,7 @@ newest-elsewhere receipts app t (calls.Pend from) (Got number) pipe none = newes
 newest-elsewhere receipts app t (calls.Look from) (Got number) pipe none = newest-receipt receipts app t from pipe none
 newest-elsewhere receipts app t call answer pipe none = ap (λ rs. newest_number rs pipe) (append-nil receipts)
 
--- where no message came, the receipts tell the one that was
+-- if no message came, the receipts tell the one that was
 remember-kept : (s t : State) (app pipe : ℕ) (receipts after : List Receipt) → ((item : Item) → own_last t.pipes app pipe ≡ Some item → own_last s.pipes app pipe ≡ Some item) →
     newest_number after pipe ≡ newest_number receipts pipe → RemembersOf receipts s app pipe → RemembersOf after t app pipe
 remember-kept s t app pipe receipts after from told remembers = by_last (own_last t.pipes app pipe) refl

@@ -39,7 +39,7 @@ newest-append (receipt ∷ newer) more handle =
     ap (λ o. option_or o (version_from receipt handle)) (newest-append newer more handle)
     ∙ or-assoc (newest_version more handle) (newest_version newer handle) (version_from receipt handle)
 
--- the newest of the receipts from a place on, where none behind that place is of the handle
+-- the newest of the receipts from a place on, if none behind that place is of the handle
 newest-from : (receipts : List Receipt) (place : ℕ) (receipt : Receipt) (handle : ℕ) → slice_get receipts place ≡ Some receipt →
     newest_version (drop (suc place) receipts) handle ≡ None → newest_version (drop place receipts) handle ≡ version_from receipt handle
 newest-from [] place receipt handle here none = absurd (cc here)
@@ -47,7 +47,7 @@ newest-from (first ∷ newer) zero receipt handle here none =
     ap (λ o. option_or o (version_from first handle)) none ∙ ap (λ r. version_from r handle) (cc here)
 newest-from (first ∷ newer) (suc place) receipt handle here none = newest-from newer place receipt handle here none
 
--- is the newest of all, where it is there
+-- is the newest of all, if it is there
 newest-all : (receipts : List Receipt) (place handle version : ℕ) → newest_version (drop place receipts) handle ≡ Some version → newest_version receipts handle ≡ Some version
 newest-all receipts zero handle version is = is
 newest-all [] (suc place) handle version is = is
@@ -101,7 +101,7 @@ newest-nothing receipts handle = newest-append receipts (Nothing ∷ []) handle
 abbrev RemembersOf : List Receipt → Tables → ℕ → ℕ → Type 0
 RemembersOf receipts t app handle = IfSome (own_hold t app handle) (λ hold. newest_version receipts handle ≡ Some hold.version)
 
--- where no address came, the receipts tell the version that was held
+-- if no address came, the receipts tell the version that was held
 remember-kept : (s t : Tables) (app handle : ℕ) (receipts after : List Receipt) → ((hold : Hold) → own_hold t app handle ≡ Some hold → own_hold s app handle ≡ Some hold) →
     newest_version after handle ≡ newest_version receipts handle → RemembersOf receipts s app handle → RemembersOf after t app handle
 remember-kept s t app handle receipts after from told remembers = by_hold (own_hold t app handle) refl

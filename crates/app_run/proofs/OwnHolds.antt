@@ -24,7 +24,7 @@ use Rattle.tbl_words.proofs.Others.{Rise, rise-tail, owner_alone}
 use Rattle.script_runs.specs.Told.{own_hold}
 use Rattle.app_run.proofs.SmallHolds.{small-after}
 
--- what the handle of a number holds, where it is the application's
+-- what the handle of a number holds, if it is the application's
 abbrev mine : ℕ → List Handle → ℕ → Option Hold
 mine app handles number = option_and_then (λ h. if h.app == app then h.hold else None) (handle_at handles number)
 
@@ -231,7 +231,7 @@ from-tables s app number handle change = by_table (table_of s handle)
     by_table None = λ hold is. is
     by_table (Some t) = λ hold is. is
 
--- an address, where it is refused by none of the causes: what it answers and leaves
+-- an address, if it is refused by none of the causes: what it answers and leaves
 abbrev addressed : State → ℕ → Option Handle → TblAnswer × State
 addressed s handle found =
     let table = option_and_then (λ (x : Handle). table_at s.tables x.table) found in (

@@ -1,4 +1,4 @@
--- What the call of a line leaves of its application's standing: it waits exactly where a receive that may wait was told so.
+-- What the call of a line leaves of its application's standing: it waits if and only if a receive that may wait was told so.
 use Rattle.std.proofs.Common.{◌≡◌, ℕ, zero, suc, ◌-◌, ◌==◌, ◌&&◌, not, Bool, true, false, cond, List, [], ◌∷◌, slice_index_or, slice_set, slice_index, Option, Some, None, refl, ap, sym, ◌∙◌}
 use Rattle.std.specs.Option.{is_some}
 use Rattle.ccsds_msg.specs.Message.{message_id}

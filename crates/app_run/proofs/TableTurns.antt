@@ -302,7 +302,7 @@ met-tables old before now may meets = record {
   limits = met-table_limits before now meets ∙ may.stands.limits;
 }
 
--- the application's turn, where the tables answered its line
+-- the application's turn, if the tables answered its line
 table_line-exact : (p old : Progress) (before after : Caller) (line : Line) (lines : List Line) (answer : TblAnswer) (handles : List ℕ) (r : List Receipt) (call : TableCall) →
     p ≡ old → IsReady old before → old.waits_on ≡ None → p.running.lines ≡ line ∷ lines → IsLineInRange line →
     call_of p.running.registers (written_in before.bag) line ≡ None → table_call_of p.running.handles line ≡ Some call → TablesAnswer before after call answer →

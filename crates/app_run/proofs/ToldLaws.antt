@@ -248,7 +248,7 @@ tells-end limits sofar running goes_on through active same =
           ∙ ap (λ st. told_on st goes_on.app goes_on.lines then) (sym (ap (λ a. standing_of after a) same ∙ standing-ended s app));
     }
 
--- The application that goes on after its turn, or what it was, where it ended.
+-- The application that goes on after its turn, or what it was, if it ended.
 abbrev pub GoesOn : List Running → Running → Running → Type 0
 GoesOn [] old new = (new.app ≡ old.app)
 GoesOn (running ∷ others) old new = new ≡ running
@@ -311,7 +311,7 @@ shown-same app s t u v registers handles (ShowPipe pipe) same held = ap (λ r. u
 shown-same app s t u v registers handles (ShowTable handle) same held = ap (λ r. unwrap_or r Nothing ∷ []) (held (slice_index handles handle))
 shown-same app s t u v registers handles line same held = refl
 
--- what the lines tell from there on, where the services tell the same of each pipe and of each handle
+-- what the lines tell from there on, if the services tell the same of each pipe and of each handle
 abbrev IsToldSame : ℕ → List Line → Type 0
 IsToldSame app lines =
     (at : Telling) (t : State) (v : Tables) → ((pipe : ℕ) → receipt_in t app pipe ≡ receipt_in at.state app pipe) → ((handle : ℕ) → held_in v app handle ≡ held_in at.tables app handle) →

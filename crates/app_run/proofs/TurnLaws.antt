@@ -413,7 +413,7 @@ pub tells-other : (limits : Limits) (sofar : SoFar) (running : Running) (line : 
 tells-other limits sofar running line lines t active next none call =
     tells-line limits sofar running line lines None active next none ∙ ap (λ c. other_tells limits sofar running line c) call
 
--- a line can wait for one answer more where it waits
+-- a line can wait for one answer more if it waits
 waits-few : (registers : Registers) (line : Line) (answer : BusAnswer) → cond (is_some (pipe_waited_for registers line answer)) 1 0 ≤ waits_of line
 unfolding pipe_waited_for waits_of
 waits-few registers (Pend pipe) Pending = omega arith
@@ -511,7 +511,7 @@ pub record WroteLocal (old : Equipped) (bag : Holding LentBytes) (core : Core) (
   pub was : HasBag core old.progress.running.app old.bag
   pub is : HasBag core old.progress.running.app bag
 
--- the bus knows the application behind such a line, where its buffers are no longer than they were
+-- the bus knows the application behind such a line, if its buffers are no longer than they were
 pub stands-other : (old : Equipped) (bag : Holding LentBytes) (held : HeldViews) (core : Core) (line : Line) (lines : List Line) (handles : List ℕ) (receipts : List Receipt) (at : StandsAtBus old core) →
     old.progress.ended ≡ false → old.progress.waits_on ≡ None → old.progress.running.lines ≡ line ∷ lines → call_of old.progress.running.registers (written_in old.bag) line ≡ None →
     AreAsked old.progress.running.registers.buffers (written_in bag) (state_of core).numbers_given at.asked → length bag.buffers ≡ length old.bag.buffers → bag.buffer_room ≡ old.bag.buffer_room →
@@ -848,7 +848,7 @@ wrote-local old before after line may writes = record {
   is = subst (λ core. HasBag core old.running.app after.bag) writes.core (subst (λ app. HasBag after.core app after.bag) (writes.same.app ∙ may.own) writes.bag);
 }
 
--- the application's turn, where its line makes no call, and wrote so
+-- the application's turn, if its line makes no call, and wrote so
 local-exact : (p old : Progress) (before after : Caller) (line : Line) (lines : List Line) (r : List Receipt) →
     p ≡ old → IsReady old before → old.waits_on ≡ None → p.running.lines ≡ line ∷ lines →
     call_of p.running.registers (written_in before.bag) line ≡ None → table_call_of p.running.handles line ≡ None →

@@ -54,7 +54,7 @@ module _ (caller : Caller) (handle : ℕ) (has : HasOwnTables caller) where
       by_hold None none = refl
       by_hold (Some hold) none = absurd cc
 
-  -- where a version is seen, there is a newest receipt of it
+  -- if a version is seen, there is a newest receipt of it
   module _ (receipts : List Receipt) (bytes : List ℕ) (remember : RememberHeld receipts (state_of caller.tables) caller.app) (seen : Some bytes ≡ bytes_seen caller.held handle) where
     read : (hold : Hold) × (held_now ≡ Some hold) × (bytes ≡ hold.value)
     read = read-hold held_now bytes (seen ∙ seen-own)

@@ -12,12 +12,12 @@ use Rattle.script_runs.specs.Trace.{Registers}
 use Rattle.script_runs.specs.Written.{Written, bytes_in}
 use Rattle.app_calls.specs.Callers.{Caller, MayCallBus, Answers}
 
--- the application may make the call of its line, where the line makes one
+-- the application may make the call of its line, if the line makes one
 abbrev pub MayRun : Caller → Option Call → Type 0
 MayRun caller None = Unit {0}
 MayRun caller (Some call) = MayCallBus caller call
 
--- the line's call was so answered; where it makes none, nothing changed
+-- the line's call was so answered; if it makes none, nothing changed
 abbrev pub IsRun : Caller → Caller → Option Call → Option BusAnswer → Type 0
 IsRun old new None None = new ≡ old
 IsRun old new None (Some answer) = ⊥
@@ -42,7 +42,7 @@ unfoldable pub pipe_waited_for : Registers → Line → BusAnswer → Option ℕ
 pipe_waited_for registers (Pend pipe) Pending = Some (slice_index registers.pipes pipe)
 pipe_waited_for registers line answer = None
 
--- the most bytes that the call of a line brings, where the latest `alloc` of each register of
+-- the most bytes that the call of a line brings, if the latest `alloc` of each register of
 -- buffers asked for these sizes
 unfoldable pub line_bytes : List ℕ → Line → ℕ
 line_bytes asked (Create pipe depth name) = length name

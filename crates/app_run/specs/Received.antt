@@ -27,7 +27,7 @@ taken_from caller pipe number =
     (option_map (λ item. message_receipt pipe number item.message)
     (own_last (state_of caller.core).pipes caller.app pipe))
 
--- the receipts of a call that was so answered, with the bus as it is now: one where it got a
+-- the receipts of a call that was so answered, with the bus as it is now: one if it got a
 -- message
 abbrev pub taken_by : Caller → Option Call → BusAnswer → List Receipt
 taken_by caller (Some (calls.Receive pipe)) (Got number) = taken_from caller pipe number
@@ -70,13 +70,13 @@ held_under caller handle version =
     (own_hold (tables_of caller.tables) caller.app handle))
 
 -- the receipts of a call of the tables that was so answered, with the tables as they are now: one
--- where it gave an address
+-- if it gave an address
 abbrev pub taken_at_tables : Caller → Option TableCall → TblAnswer → List Receipt
 taken_at_tables caller (Some (table_calls.GetAddress handle)) (Address told version) =
     held_under caller handle version
 taken_at_tables caller call answer = []
 
--- the version that a receipt is of, where it is of this handle
+-- the version that a receipt is of, if it is of this handle
 abbrev pub version_from : Receipt → ℕ → Option ℕ
 version_from Nothing handle = None
 version_from (Message pipe number id count size sum head) handle = None

@@ -119,7 +119,7 @@ pub record AllTold (script : ScriptText) (services : Services) (all : List Equip
   pub table_apps : table_apps_of services.tables ≡ length script.apps
   pub each : All (λ one. HasTold script services one) all
 
--- One application took its turn, where it goes on.
+-- One application took its turn, if it goes on.
 abbrev pub StepsIf : Bool → Equipped → Equipped → Services → Services → Type 0
 StepsIf true old new before after = (new ≡ old) × (after ≡ before)
 StepsIf false old new before after = TakesTurn old new before after

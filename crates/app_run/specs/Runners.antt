@@ -88,6 +88,6 @@ running_of one = record {
   written = written_in one.bag;
 }
 
--- the application, where it goes on
+-- the application, if it goes on
 abbrev pub going : Equipped → List Running
 going one = if one.progress.ended then [] else running_of one ∷ []

@@ -9,12 +9,12 @@ use Rattle.script_lines.specs.declared.line.Line.TheVariants.{TableRegister, Tab
 use Rattle.app_calls.specs.Callers.{Caller}
 use Rattle.app_calls.specs.TableCallers.{MayCallTables, TablesAnswer}
 
--- the application may make the tables' call of its line, where the line makes one
+-- the application may make the tables' call of its line, if the line makes one
 abbrev pub MayRunAtTables : Caller → Option Call → Type 0
 MayRunAtTables caller None = Unit {0}
 MayRunAtTables caller (Some call) = MayCallTables caller call
 
--- the line's call was so answered; where it makes none, nothing changed
+-- the line's call was so answered; if it makes none, nothing changed
 abbrev pub IsRunAtTables : Caller → Caller → Option Call → Option TblAnswer → Type 0
 IsRunAtTables old new None None = new ≡ old
 IsRunAtTables old new None (Some answer) = ⊥

@@ -22,7 +22,7 @@ use bus_words::{BusAnswer, Head, Receipt, ReceiptList};
 use script_lines::Line;
 use tbl_words::{TableReceipt, TblAnswer};
 
-/// Adds the receipt of a line that was so answered: one where it got a message.
+/// Adds the receipt of a line that was so answered: one if it got a message.
 #[tactic(auto, unfolding(script_runs::specs::Trace::call_of, script_runs::specs::LineCalls::line_call_of))]
 pub(crate) fn take_got<C: Calls>(
     calls: &C,
@@ -47,7 +47,7 @@ pub(crate) fn take_got<C: Calls>(
     }
 }
 
-/// Adds the receipt of the pipe's last message, received under this send number, where there is
+/// Adds the receipt of the pipe's last message, received under this send number, if there is
 /// one.
 pub(crate) fn take_receipt<C: Calls>(calls: &C, pipe: u32, number: u32, receipts: &mut ReceiptList)
     requires bag { HasOwnBag (C.caller calls.now) }
@@ -61,7 +61,7 @@ pub(crate) fn take_receipt<C: Calls>(calls: &C, pipe: u32, number: u32, receipts
     }
 }
 
-/// Adds the receipt of a line of the tables that was so answered: one where it gave an address.
+/// Adds the receipt of a line of the tables that was so answered: one if it gave an address.
 #[tactic(auto, unfolding(script_runs::specs::TableTrace::table_call_of, script_runs::specs::LineCalls::line_call_of))]
 pub(crate) fn take_address<C: Calls>(
     calls: &C,
@@ -88,7 +88,7 @@ pub(crate) fn take_address<C: Calls>(
     }
 }
 
-// Adds the receipt of what a handle holds, under this version, where it holds something.
+// Adds the receipt of what a handle holds, under this version, if it holds something.
 fn take_held<C: Calls>(calls: &C, handle: u32, version: u32, receipts: &mut ReceiptList)
     requires bag { HasOwnTables (C.caller calls.now) }
     requires small { (C.caller calls.now).tables.limits.tablemax ≤ 65536 }
@@ -137,8 +137,8 @@ pub(crate) fn show<C: Calls>(
     }
 }
 
-// The receipt of what a handle holds, of which version the newest of the receipts of the handle is;
-// `Nothing` where it holds nothing.
+// The receipt of what a handle holds; `Nothing` if it holds nothing. Its version is that of the
+// newest receipt of the handle.
 fn hold_receipt<C: Calls>(calls: &C, handle: u32, receipts: &ReceiptList) -> Receipt
     requires bag { HasOwnTables (C.caller calls.now) }
     requires small { (C.caller calls.now).tables.limits.tablemax ≤ 65536 }
@@ -197,8 +197,8 @@ fn version_from(receipt: &Receipt, handle: u32) -> Option<u32>
     }
 }
 
-// The receipt of the pipe's last message, of which the newest of the receipts from the pipe is;
-// `Nothing` where there is no such message.
+// The receipt of the pipe's last message; `Nothing` if there is none. Its number is that of the
+// newest receipt from the pipe.
 fn last_receipt<C: Calls>(calls: &C, pipe: u32, receipts: &ReceiptList) -> Receipt
     requires bag { HasOwnBag (C.caller calls.now) }
     requires remember { Remember receipts.now.receipts (state_of (C.caller calls.now).core)

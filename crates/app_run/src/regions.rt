@@ -61,7 +61,7 @@ impl Regions {
     /// As large as the configuration's pools, and four working buffers of its largest table.
     ///
     /// # Errors
-    /// Where memory runs out.
+    /// If memory runs out.
     pub fn new(alloc: Global, cfg: &Config) -> Result<Regions, AllocError>
         ensures { IfOk result
             (λ regions. regions ≡
@@ -92,7 +92,7 @@ impl Regions {
     }
 }
 
-// So many zeros, a page at a time: where nothing is optimized, a copy takes far less than a loop
+// So many zeros, a page at a time: if nothing is optimized, a copy takes far less than a loop
 // over the bytes.
 fn zeros(alloc: Global, count: usize) -> Result<Vec<u8>, AllocError>
     ensures { IfOk result (λ block. length block.items ≡ count) }

@@ -54,7 +54,7 @@ impl Drop for Finished<'_> {
 /// the first call.
 ///
 /// # Errors
-/// Where memory runs out; by the code, no application ran then.
+/// If memory runs out; by the code, no application ran then.
 pub fn lockstep<'r>(
     alloc: Global,
     script: &Script,
@@ -194,7 +194,7 @@ fn run<'r>(script: &Script, services: OpenedServices<'r>, apps: OpenedApps<'_, '
 /// What each application may add to each of the two histories of a run.
 ///
 /// # Errors
-/// Where memory runs out.
+/// If memory runs out.
 pub fn budgets_of(alloc: Global, script: &Script) -> Result<Vec<Budget>, AllocError>
     ensures { IfOk result
         (λ budgets. budgets.items ≡ map (λ a. budget_of a.lines) script.now.apps) }
@@ -375,7 +375,7 @@ fn rotate<'r, L: Ledger>(
     }
 }
 
-// A turn of the application, where it has not ended.
+// A turn of the application, if it has not ended.
 fn take_turn<'r, L: Ledger>(
     bus: &mut BusCore<'r>,
     tables: &mut TblCore<'r>,

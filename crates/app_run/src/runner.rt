@@ -88,7 +88,7 @@ impl<'s> Runner<'s> {
     /// the code, all memory that its run takes is taken here.
     ///
     /// # Errors
-    /// Where memory runs out.
+    /// If memory runs out.
     pub fn new(alloc: Global, script: &'s Script, app: AppNo) -> Result<Runner<'s>, AllocError>
         requires { app ≤ length script.now.apps }
         ensures beginning { IfOk result (λ runner. runner ≡ beginning script.now app) }
@@ -258,7 +258,7 @@ impl<'s> Runner<'s> {
     }
 }
 
-// The most bytes that one of the application's lines has made; 0 where none has any.
+// The most bytes that one of the application's lines has made; 0 if none has any.
 fn largest_made(script: &Script, app: AppNo) -> u32
     requires { app ≤ length script.now.apps }
     ensures { All (λ line. made_size line ≤ result) (app_at script.now app).lines }

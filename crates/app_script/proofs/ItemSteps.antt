@@ -57,7 +57,7 @@ set_to s setting = record s { limits = with_setting s.limits setting; named = na
 abbrev pub begun_by : Progress → Word → Progress
 begun_by s name = record s { started = true; done = apps_of s; present = record { name = name; lines = [] } }
 
--- after an item that stands where it may
+-- after an item that stands if it may
 abbrev pub after_item : Progress → Item → Result Progress FaultKind
 after_item s (Version version) = Ok (with_version s version)
 after_item s (Configures setting) = cond (is_past s.limits setting) (Err OutOfRange) (cond (is_again s.limits s.named s.sized setting) (Err Repeated) (Ok (set_to s setting)))
@@ -159,7 +159,7 @@ item_goes s u (Calls line) e =
     let same = call_read (record s { begun = true }) u line way.1 in
     record { begun = ap (λ (v : Progress). v.begun) (sym same); version = λ h. ap (λ (v : Progress). v.limits.version) (sym same) }
 
--- where something has begun, the version is the last one
+-- if something has begun, the version is the last one
 version_stays : (items : List Item) (s t : Progress) → all_taken s items ≡ Ok t → s.begun ≡ true → t.limits.version ≡ s.limits.version
 version_stays [] s t e begun =
     let same : s ≡ t = cc in
@@ -170,7 +170,7 @@ version_stays (item ∷ items) s t e begun =
       | Err fault ↦ λ one h. absurd cc
     ] refl e
 
--- an application begins where something has begun
+-- an application begins if something has begun
 abbrev pub IsBehind : Progress → Type 0
 IsBehind s = s.started ≡ true → s.begun ≡ true
 
@@ -302,7 +302,7 @@ no_file s u true rest before e =
     absurd cc
 no_file s u false rest before e = absurd cc
 
--- what is read in one version is read in another, where they are one within an application
+-- what is read in one version is read in another, if they are one within an application
 other_version : (s u : Progress) (v w : ℕ) (first : Word) (rest : List ℕ) → (s.started ≡ true → v ≡ w) → after_known s (form_in v first) rest ≡ Ok u → after_known s (form_in w first) rest ≡ Ok u
 unfolding form_in file_form
 other_version s u v w first rest same e = decide s.started refl
@@ -358,7 +358,7 @@ line_plain s line t e =
 
 -- ---- lines
 
--- what lines tell, where they are read, in the version that stands at the end
+-- what lines tell, if they are read, in the version that stands at the end
 pub record Tells (s : Progress) (lines : List (List ℕ)) (t : Progress) : Type 0 where
   pub plain : list_all is_plain lines ≡ true
   pub items : List Item

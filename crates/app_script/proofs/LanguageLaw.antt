@@ -1,4 +1,4 @@
--- A text is a script exactly where its lines are those of one, in order.
+-- A text is a script if and only if its lines are those of one, in order.
 use Rattle.std.proofs.Common.{◌≡◌, ℕ, ◌≤◌, true, ◌&&◌, nat_le, List, length, Option, Result, Ok, Err, refl, ap, sym, ◌∙◌, subst}
 use Rattle.std.specs.List.{list_all}
 use Rattle.std.proofs.lemmas.Bool.{leb-true}

@@ -68,7 +68,7 @@ keeps_app a b keeps fresh calls charged starts few = record {
   apps = few;
 }
 
--- where an application has begun there is one more than those before it
+-- if an application has begun there is one more than those before it
 pub more_apps : (a : reading.Inside) (s : Progress) (count : ℕ) → progress_in a ≡ s → count ≡ length (apps_of s) → a.started ≡ true → count ≡ length a.done.items + 1
 more_apps a s count view counted started =
     let all : length (apps_of s) ≡ length (cond true (a.done.items ++ a.present ∷ []) a.done.items) =

@@ -323,7 +323,7 @@ some_apps : (b : Bool) (done : List Application) (present : Application) → b �
 some_apps true done present h = let longer = length-append done (present ∷ []) in omega arith
 some_apps false done present h = absurd cc
 
--- what lines from any number on are read as is a script that a text can be, where an application has begun
+-- what lines from any number on are read as is a script that a text can be, if an application has begun
 pub lines_are_script : (n : ℕ) (lines : List (List ℕ)) (s : Progress) → after_lines n opening lines ≡ Ok s → s.started ≡ true → IsScript (record { limits = s.limits; apps = apps_of s })
 lines_are_script n lines s read started =
     let so = lines_keep Stands line_stands n opening s lines stands_opening read in

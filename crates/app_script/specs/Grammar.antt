@@ -90,7 +90,7 @@ after_app s words = app_of words >>= λ name.
 
 -- ---- call lines
 
--- one call line more, where the script may have it
+-- one call line more, if the script may have it
 unfoldable pub after_call : Progress → Line → Result Progress FaultKind
 after_call s line =
     let charge = charge_of (account_of s.present.lines) line in
@@ -102,7 +102,7 @@ after_call s line =
       charged = s.charged + charge;
     }))
 
--- the two call lines of a table file, where the script may have both
+-- the two call lines of a table file, if the script may have both
 unfoldable pub after_file : Progress → Line × Line → Result Progress FaultKind
 after_file s calls =
     if nat_le 19999 s.calls then Err TooManyCalls
@@ -133,7 +133,7 @@ after_words s (first ∷ words) rest =
     if starts_with (λ a b. a == b) first (codes "#") then Ok s
     else after_known s (form_in s.limits.version first) rest
 
--- a line: skipped where it has no word or begins with a hash sign
+-- a line: skipped if it has no word or begins with a hash sign
 unfoldable pub after_line : Progress → List ℕ → Result Progress FaultKind
 after_line s line =
     if nat_lt 1024 (length line) then Err LineTooLong

@@ -54,7 +54,7 @@ abbrev pub items_known : Option Form → List ℕ → Result (List Item) FaultKi
 items_known None rest = Err UnknownWord
 items_known (Some form) rest = items_of form rest
 
--- what a line of these words tells in a script of this version, where it isn't skipped
+-- what a line of these words tells in a script of this version, if it isn't skipped
 unfoldable pub items_in : ℕ → List Word → List ℕ → Result (List Item) FaultKind
 items_in version [] rest = Err UnknownWord
 items_in version (first ∷ words) rest = items_known (form_in version first) rest

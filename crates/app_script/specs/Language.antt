@@ -25,7 +25,7 @@ told_among lines = filter (λ line. not (is_skipped (words_of line))) lines
 abbrev pub items_on : ℕ → List ℕ → Result (List Item) FaultKind
 items_on version line = items_in version (words_of line) (behind_word line)
 
--- what lines of a script of this version tell in order, where each tells something
+-- what lines of a script of this version tell in order, if each tells something
 unfoldable pub told_by : ℕ → List (List ℕ) → Result (List Item) FaultKind
 told_by version [] = Ok []
 told_by version (line ∷ lines) = do
@@ -41,7 +41,7 @@ with_setting limits (Limit name value) = with_limit limits name value
 with_setting limits (Sizes sizes) = record limits { sizes = sizes }
 with_setting limits (Start id count) = record limits { starts = limits.starts ++ (id, count) ∷ [] }
 
--- the version of a script: the one that its first line tells, 1 where none is told
+-- the version of a script: the one that its first line tells, 1 if none is told
 abbrev pub version_in : Option ℕ → ℕ
 version_in None = 1
 version_in (Some version) = version
@@ -70,12 +70,12 @@ are_new_settings before (setting ∷ settings) =
 abbrev pub app_items : Application → List Item
 app_items app = Begins app.name ∷ map Calls app.lines
 
--- the version of the language, where it is told
+-- the version of the language, if it is told
 abbrev pub version_items : Option ℕ → List Item
 version_items None = []
 version_items (Some version) = Version version ∷ []
 
--- a script: the version of the language, where it is told; the configuration; then one application
+-- a script: the version of the language, if it is told; the configuration; then one application
 -- after another
 abbrev pub script_items : Option ℕ → List Setting → List Application → List Item
 script_items version settings apps =

@@ -73,7 +73,7 @@ impl App {
     }
 
     /// An application of this name and these call lines, in order: at most 20000, whose charges
-    /// come to at most 16777216 bytes. By the code, it keeps the lines where they are, and takes no
+    /// come to at most 16777216 bytes. By the code, it keeps the lines if they are, and takes no
     /// memory.
     pub fn of_lines(name: ByteText, lines: Vec<Line>) -> App
         requires calls { length lines.items ≤ 20000 }

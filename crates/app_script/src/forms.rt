@@ -70,7 +70,7 @@ fn file_form(version: u32, word: &[u8]) -> Option<Form>
     }
 }
 
-/// The form of the line with this first word, in a script of this version; None where no line
+/// The form of the line with this first word, in a script of this version; None if no line
 /// begins so.
 #[tactic(auto, unfolding(crate::specs::Forms::form_in))]
 pub(crate) fn form_in(version: u32, word: &[u8]) -> Option<Form>
@@ -82,7 +82,7 @@ pub(crate) fn form_in(version: u32, word: &[u8]) -> Option<Form>
     }
 }
 
-/// Whether a line of this form stands where it may not.
+/// Whether a line of this form stands if it may not.
 pub(crate) fn is_misplaced(form: Form, begun: bool, started: bool) -> bool
     ensures { result ≡ is_misplaced form begun started }
 {

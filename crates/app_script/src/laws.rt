@@ -6,7 +6,7 @@ ghost use Rattle.app_script.specs.Ranges.{IsInRange};
 ghost use Rattle.app_script.specs.Script.{ScriptText};
 ghost use Rattle.app_script.specs.ScriptRanges.{IsScript};
 
-/// The language of scripts in a reader's words: a text is read as a script exactly where it is one
+/// The language of scripts in a reader's words: a text is read as a script if and only if it is one
 /// of plain lines that tell, without the skipped ones, perhaps the version, then the configuration,
 /// each setting once, and then one to sixteen applications, each with its call lines, not too many
 /// of them.

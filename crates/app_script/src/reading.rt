@@ -102,7 +102,7 @@ impl Reading {
     /// A script of which no line was read yet.
     ///
     /// # Errors
-    /// Where memory runs out.
+    /// If memory runs out.
     #[tactic(auto, unfolding(script_settings::specs::Accounts::account_of))]
     pub fn new(alloc: Global) -> Result<Reading, AllocError>
         ensures { IfOk result (λ reading. reading ≡ opening) }
@@ -273,7 +273,7 @@ impl Reading {
         }
     }
 
-    // Whether a line of this form stands where it may not.
+    // Whether a line of this form stands if it may not.
     fn is_misplaced(&self, form: Form) -> bool
         ensures { result ≡ is_misplaced form self.now.begun self.now.started }
     {
@@ -318,8 +318,8 @@ impl Reading {
     /// reading is of no use.
     ///
     /// # Errors
-    /// `Fault` where the line is faulty, with its first fault in the order of [`FaultKind`].
-    /// `Memory` where memory runs out.
+    /// `Fault` if the line is faulty, with its first fault in the order of [`FaultKind`].
+    /// `Memory` if memory runs out.
     #[tactic(auto, unfolding(crate::specs::Grammar::after_line))]
     pub fn line(&mut self, alloc: Global, line: &[u8], plain: bool) -> Result<(), LineFail>
         requires { IsTrue plain → IsTrue (list_all is_text line.now) }
@@ -341,10 +341,10 @@ impl Reading {
         self.started
     }
 
-    /// The script that was read, where an application has begun. Its lines told one in its ranges.
+    /// The script that was read, if an application has begun. Its lines told one in its ranges.
     ///
     /// # Errors
-    /// Where memory runs out.
+    /// If memory runs out.
     pub fn into_script(self) -> Result<Script, AllocError>
         requires text { IsScript (record { limits = self.limits; apps = apps_of self }) }
         requires started { IsTrue self.started }

@@ -189,9 +189,9 @@ fn read_all(alloc: Global, reading: &mut Reading, bytes: &[u8]) -> Result<(), Re
 /// Reads a script of at most 1,048,576 bytes, in one pass, with memory in proportion to them.
 ///
 /// # Errors
-/// `Fault` where they are no script: that of the first faulty line, with the line's number from 1;
+/// `Fault` if they are no script: that of the first faulty line, with the line's number from 1;
 /// the first in the order of [`FaultKind`]. `TooLarge` and `NoApp` are faults of the whole, and
-/// have the number 0. `Memory` where memory runs out.
+/// have the number 0. `Memory` if memory runs out.
 #[tactic(auto, unfolding(crate::specs::Grammar::grammar))]
 pub fn read_script(alloc: Global, bytes: &[u8]) -> Result<Script, ReadFail>
     ensures { GivesScript result (grammar bytes.now) }

@@ -22,7 +22,7 @@ use Rattle.bridge_plan.specs.Sides.{after_side_line, after_side_lines}
 
 -- ---- cutting at the first mark
 
--- where a line is a mark it is the first
+-- if a line is a mark it is the first
 front_with : (b : Bool) (n : ℕ) (line : List ℕ) (lines : List (List ℕ)) → take (cond (not b) (1 + n) 0) (line ∷ lines) ≡ cond b [] (line ∷ take n lines)
 front_with true n line lines = refl
 front_with false n line lines =
@@ -70,7 +70,7 @@ no_marks (byte ∷ bytes) none = absurd (omega (arith, none))
 
 -- ---- one part after the other
 
--- what was read, where the next line stands in this part
+-- what was read, if the next line stands in this part
 abbrev at_part : Part → List Route → Progress → Progress → PlanProgress
 at_part part routes one two = record { part = part; routes = routes; one = one; two = two }
 

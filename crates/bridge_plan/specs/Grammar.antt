@@ -14,7 +14,7 @@ use Rattle.bridge_plan.specs.Plan.{PlanText}
 use Rattle.bridge_plan.specs.Routes.{after_routes}
 use Rattle.bridge_plan.specs.Sides.{after_side_lines, script_read}
 
--- both scripts with the routes, where each script has an application
+-- both scripts with the routes, if each script has an application
 unfoldable pub plan_read : List Route → Progress → Progress → Result PlanText ScriptFault
 plan_read routes one two =
     if one.started && two.started

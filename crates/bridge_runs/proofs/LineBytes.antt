@@ -47,7 +47,7 @@ others_stay written n k buffer apart = ap (λ b. option_map_or (λ bytes. bytes)
 own_is : (written : Written) (n : ℕ) (buffer : Option (List ℕ)) → bytes_in (with_buffer written n buffer) n ≡ option_map_or (λ bytes. bytes) buffer []
 own_is written n buffer = ap (λ b. option_map_or (λ bytes. bytes) (cond {A = Option (List ℕ)} b buffer (written n)) []) (eq-eqb n n refl)
 
--- what stands in a list where one place was set: the new one there, or the old one
+-- what stands in a list if one place was set: the new one there, or the old one
 set_cases : (P : ℕ → ℕ → Type 0) (xs ys : List ℕ) (i x y k : ℕ) → length xs ≡ length ys → P x y → P (get_or xs k 0) (get_or ys k 0) → P (get_or (set xs i x) k 0) (get_or (set ys i y) k 0)
 set_cases P xs ys i x y k same new old =
     dite (ℕ_discrete k i)

@@ -18,7 +18,7 @@
 //! no more than the sends of side 1, nor than the lines of its script that send, and have no more
 //! bytes than these lines are charged for.
 //! `bridges_leave_nothing`: behind both histories of both sides nothing is held, and no table is
-//! left. No program runs a bridge yet.
+//! left. `sb_bridge` runs a bridge so.
 #![tactic(auto)]
 
 mod laws;

@@ -50,7 +50,7 @@ chains-set_link links (first ∷ heads) (count ∷ counts) node link e =
     ap (λ xs. xs ∷ chains (set links node link) heads counts) (chain-set links first count node link (omega (arith, c)))
     ∙ ap (λ xs. chain links first count ∷ xs) (chains-set_link links heads counts node link (omega (arith, c)))
 
--- a further link of 0 changes no chain: where no link stands, 0 is read
+-- a further link of 0 changes no chain: if no link stands, 0 is read
 get_or-more : (links : List ℕ) (node : ℕ) → get_or (links ++ 0 ∷ []) node 0 ≡ get_or links node 0
 get_or-more [] zero = refl
 get_or-more [] (suc node) = refl

@@ -37,3 +37,4 @@ mod lists;
 
 pub use links::Links;
 pub use lists::Lists;
+pub use step_count::Steps;

@@ -32,7 +32,7 @@ impl Links {
     /// A row of `count` places, with 0 at each. By the code, no later call takes memory.
     ///
     /// # Errors
-    /// `AllocError` where memory runs out.
+    /// `AllocError` if memory runs out.
     pub fn new(alloc: Global, count: u32) -> Result<Links, AllocError>
         ensures { IfOk result (λ links. links ≡ replicate count 0) }
     {
@@ -44,7 +44,7 @@ impl Links {
     /// A row of `count` places, each linked to itself. By the code, no later call takes memory.
     ///
     /// # Errors
-    /// `AllocError` where memory runs out.
+    /// `AllocError` if memory runs out.
     pub fn to_themselves(alloc: Global, count: u32) -> Result<Links, AllocError>
         ensures { IfOk result (λ links. links ≡ range_with_len 0 count) }
     {
@@ -104,7 +104,7 @@ impl NodeLinks {
     /// No place, with room for `room` of them. No later call takes memory.
     ///
     /// # Errors
-    /// `AllocError` where memory runs out.
+    /// `AllocError` if memory runs out.
     pub(crate) fn new(alloc: Global, room: u32) -> Result<NodeLinks, AllocError>
         ensures { IfOk result (λ row. row ≡ record { room = room; links = [] }) }
     {
@@ -147,7 +147,7 @@ impl NodeLinks {
 /// A list of `count` zeros.
 ///
 /// # Errors
-/// `AllocError` where memory runs out.
+/// `AllocError` if memory runs out.
 pub fn zeros(alloc: Global, count: u32) -> Result<Vec<u32>, AllocError>
     ensures { IfOk result (λ numbers. numbers.items ≡ replicate count 0) }
 {

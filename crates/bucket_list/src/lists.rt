@@ -57,7 +57,7 @@ impl Lists {
     /// By the code, no later call takes memory.
     ///
     /// # Errors
-    /// `AllocError` where memory runs out.
+    /// `AllocError` if memory runs out.
     pub fn new(alloc: Global, nodes: u32, lists: u32) -> Result<Lists, AllocError>
         ensures { IfOk result
             (λ s. s ≡ record { room = nodes; nodes = 0; lists = replicate lists [] }) }
@@ -109,7 +109,7 @@ impl Lists {
         self.counts[list as usize] += 1;
     }
 
-    /// Takes the front node of a list, which is then in no list; `None` exactly where the list is
+    /// Takes the front node of a list, which is then in no list; `None` if and only if the list is
     /// empty. At most 4 steps.
     pub fn pop<L: Ledger>(&mut self, list: u32, steps: &mut Steps<L>) -> Option<u32>
         requires { list < length self.old.lists }

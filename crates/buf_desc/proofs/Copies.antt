@@ -97,7 +97,7 @@ drawn old new slots rest capacity size desc k w draws was out = by_case (cases_l
               (kept_slot new (slots ++ Unsent 0 size ∷ []) (rest - size_at new desc) capacity desc (Sealed sent) next.kept (omega (arith, next.next, length_push slots (Unsent 0 size))) (out, same)));
         }
 
--- where the block's old slot was emptied first, it is placed all the same
+-- if the block's old slot was emptied first, it is placed all the same
 pub placed_lifted : (slots lifted : List Slot) (desc : ℕ) (s : Slot) → lifted ≡ cond (nat_lt desc (length slots)) (set slots desc (Free 0)) slots → placed lifted desc s ≡ placed slots desc s
 placed_lifted slots lifted desc s e = ap (λ l. placed l desc s) e ∙ by_case (cases_lt desc (length slots))
   where

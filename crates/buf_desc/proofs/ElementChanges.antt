@@ -40,7 +40,7 @@ module _ {X : Type 0} (key : X → ℕ) (xs : List X) (rising : IsRisingBy key x
           (sym (seen (at k) (set xs i y) i y (found key (set xs i y) k i changed_rises still_at) (sym (get_or-set_same xs i y y here.within))))
       by_test false e = found_set_other (find (at j)) (at j) Some None refl (λ z zs. refl) xs i y y (apart (key (get_or xs i y)) (here.has_key y) e) (apart (key y) is_key e)
 
--- where there is a part, there is a whole
+-- if there is a part, there is a whole
 pub part_there : {X Y : Type 0} (part : X → Y) (o : Option X) → IsSome (option_map part o) → IsSome o
 part_there part (Some x) is = refl
 part_there {X = X} {Y = Y} part None is = absurd (none is)

@@ -46,7 +46,7 @@ module _ {X : Type 0} (key : X → ℕ) (xs : List X) (rising : IsRisingBy key x
       let above : (n : ℕ) → i < n → key_at new n ≡ key_at xs (n - 1) = λ n h. ap (key_at new) {x = n} {y = n - 1 + 1} (omega (arith, h)) ∙ ap key (get_or-insert_above xs i x d (n - 1) (omega (arith, h)) gap.within) in
       grind (arith, below a, here a, above a, below b, here b, above b, rising a b d, rising a (b - 1) d, rising (a - 1) (b - 1) d, gap.smaller_before a d, gap.greater_after (b - 1) d)
 
-  -- the order stays where one is taken out
+  -- the order stays if one is taken out
   pub rising_remove : (i : ℕ) → i < length xs → IsRisingBy key (remove xs i)
   rising_remove i h a b d l within =
       let new = remove xs i in
@@ -56,7 +56,7 @@ module _ {X : Type 0} (key : X → ℕ) (xs : List X) (rising : IsRisingBy key x
       let above : (n : ℕ) → i ≤ n → key_at new n ≡ key_at xs (n + 1) = λ n g. ap key (get_or-remove_above xs i d n g h) in
       grind (arith, below a, above a, below b, above b, rising a b d, rising a (b + 1) d, rising (a + 1) (b + 1) d)
 
-  -- and where one is changed and keeps its key
+  -- and if one is changed and keeps its key
   pub rising_set : (i : ℕ) (y x : X) → i < length xs → x ≡ get_or xs i x → key y ≡ key x → IsRisingBy key (set xs i y)
   rising_set i y x h read e a b d l within =
       let low = same_key a (omega (arith, l, within, length-set xs i y)) in
@@ -86,7 +86,7 @@ module _ {X : Type 0} (key : X → ℕ) where
       other : (a b : ℕ) → b < a → eqb a b ≡ false
       other a b l = grind (arith, nat_tests)
 
-  -- where the keys rise, each is there at most once
+  -- if the keys rise, each is there at most once
   pub rising_once : (xs : List X) → IsRisingBy key xs → (k : ℕ) → count_by (λ x. eqb (key x) k) xs ≤ 1
   rising_once [] rising k = omega arith
   rising_once (x ∷ xs) rising k = by_case (eqb (key x) k) refl (rising_once xs (rising_rest x xs rising) k)

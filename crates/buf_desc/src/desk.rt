@@ -1,4 +1,4 @@
-//! The desk: which block is where, and when it goes back to the pool.
+//! The desk: which block is if, and when it goes back to the pool.
 ghost use Rattle.std.specs.Prelude.{◌≡◌, ℕ, ◌+◌, ◌-◌, ◌<◌, ◌≤◌, ◌↔◌, true, false, length, slice_set, take, replicate, nat_lt, if◌then◌else◌, vec_capacity, IfSome, IsTrue, IsOk, IfOk, IfErr, OnErr};
 ghost use Rattle.std.specs.Option.{option_map_or};
 ghost use Rattle.ccsds_msg.specs.Message.{with_count};
@@ -89,7 +89,7 @@ fn memory_of<'r>(
     rest.cut(whole as usize)
 }
 
-// Writes a message into a block's memory, with the sequence count where there is one, and seals it.
+// Writes a message into a block's memory, with the sequence count if there is one, and seals it.
 fn sealed_copy<'r>(
     space: &'r mut [u8],
     desc: u32,
@@ -124,7 +124,7 @@ impl<'r> Desk<'r> {
     ///
     /// # Errors
     ///
-    /// `AllocError` where memory runs out.
+    /// `AllocError` if memory runs out.
     pub fn new(
         alloc: Global,
         pool: u32,
@@ -147,7 +147,7 @@ impl<'r> Desk<'r> {
     ///
     /// # Errors
     ///
-    /// `ErrMemBlockSize` exactly where the pool has no block for it; then nothing changes.
+    /// `ErrMemBlockSize` if and only if the pool has no block for it; then nothing changes.
     pub fn take<L: Ledger>(
         &mut self,
         size: u32,
@@ -173,7 +173,7 @@ impl<'r> Desk<'r> {
     ///
     /// # Errors
     ///
-    /// `ErrMemBlockSize` exactly where the pool has no block for as many bytes; then nothing
+    /// `ErrMemBlockSize` if and only if the pool has no block for as many bytes; then nothing
     /// changes.
     pub fn take_copy<L: Ledger>(
         &mut self,
@@ -197,7 +197,7 @@ impl<'r> Desk<'r> {
         }
     }
 
-    /// Takes a block, writes a message into it, with the sequence count where there is one, and
+    /// Takes a block, writes a message into it, with the sequence count if there is one, and
     /// seals it for the send of this number. Answers its descriptor, which has no use yet. By the
     /// code, each byte and the block's slot are written once. At most 8 steps.
     #[inline(always)]
@@ -306,7 +306,7 @@ impl<'r> Desk<'r> {
         let _ = &self.slots;
     }
 
-    /// Counts one use less of a sealed block. Where it was the last one, and so no view is out, the
+    /// Counts one use less of a sealed block. If it was the last one, and so no view is out, the
     /// block goes back to the pool. At most 8 steps.
     pub fn drop_use<L: Ledger>(&mut self, desc: u32, steps: &mut Steps<L>)
         requires sealed { is_sealed (slot_at self.old.slots desc) ≡ true }
@@ -324,7 +324,7 @@ impl<'r> Desk<'r> {
         self.pool.take_back(desc, steps);
     }
 
-    /// Takes back the view that a use of a sealed block had, and counts that use no more. Where it
+    /// Takes back the view that a use of a sealed block had, and counts that use no more. If it
     /// was the last one, and so no other view is out, the block goes back to the pool. At most 8
     /// steps.
     pub fn let_use_go<L: Ledger>(&mut self, desc: u32, view: View<'r>, steps: &mut Steps<L>)
@@ -343,7 +343,7 @@ impl<'r> Desk<'r> {
     }
 
     /// Gives a sealed block without uses, of which no view is out, back to the pool. No effect
-    /// where it has uses. At most 8 steps.
+    /// if it has uses. At most 8 steps.
     pub fn settle<L: Ledger>(&mut self, desc: u32, steps: &mut Steps<L>)
         requires sealed { is_sealed (slot_at self.old.slots desc) ≡ true }
         requires all_back { (sealed_at self.old.slots desc).uses ≡ 0 →
@@ -358,7 +358,7 @@ impl<'r> Desk<'r> {
         self.pool.take_back(desc, steps);
     }
 
-    /// Counts so many uses of a sealed block that has none, and of which no view is out. Where
+    /// Counts so many uses of a sealed block that has none, and of which no view is out. If
     /// there are none to count, it goes back to the pool. At most 8 steps.
     pub fn settle_at<L: Ledger>(&mut self, desc: u32, uses: u32, steps: &mut Steps<L>)
         requires sealed { is_sealed (slot_at self.old.slots desc) ≡ true }

@@ -13,7 +13,7 @@ ghost use Rattle.buf_desc.specs.declared.slot.Slot.{Slot};
 ghost use Rattle.buf_desc.specs.declared.slot.Slot.TheVariants.{Unsent};
 
 /// A draw changes the block drawn and no other: that one is an application's for its send, and
-/// each that was live is what it was, in the pool too. Where the send is new, no two live blocks
+/// each that was live is what it was, in the pool too. If the send is new, no two live blocks
 /// have the same send afterwards.
 pub fn recall_draw()
     ensures slots { (old new : Buffers) (size number : ℕ) (block : UnsentBlock) →
@@ -30,8 +30,8 @@ pub fn recall_draw()
         HaveOwnNumbers new.slots }
 {}
 
-/// Where the slot of a live block is set, as every call on one does, the slots of the others stay;
-/// a block that goes back leaves the size of each. Where the block keeps its send, or is free, no
+/// If the slot of a live block is set, as every call on one does, the slots of the others stay;
+/// a block that goes back leaves the size of each. If the block keeps its send, or is free, no
 /// two live blocks get the same send.
 pub fn recall_change()
     ensures slots { (slots : List Slot) (desc : ℕ) (slot : Slot) →

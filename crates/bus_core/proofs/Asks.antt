@@ -36,7 +36,7 @@ name_told pipes name = any_found (λ (p : Pipe). bytes_eq p.name name) pipes ∙
 
 -- Calls that only ask. --
 
--- what is told of the pipe that passes a test, where one does
+-- what is told of the pipe that passes a test, if one does
 found : {X : Type 0} (p : Pipe → Bool) (f : Pipe → X) (other x : X) (pipes : List Pipe) → option_map f (find p pipes) ≡ Some x → (list_any p pipes ≡ true) × (option_map_or f (find p pipes) other ≡ x)
 found {X} p f other x pipes some = let both = at (find p pipes) some in (any_found p pipes ∙ both.0, both.1)
   where
@@ -44,7 +44,7 @@ found {X} p f other x pipes some = let both = at (find p pipes) some in (any_fou
     at None some = absurd (cc (some))
     at (Some pipe) some = let same : f pipe ≡ x = cc (some) in (refl, same)
 
--- where none does
+-- if none does
 not_found : {X : Type 0} (p : Pipe → Bool) (f : Pipe → X) (pipes : List Pipe) → option_map f (find p pipes) ≡ None → list_any p pipes ≡ false
 not_found p f pipes none = any_found p pipes ∙ at (find p pipes) none
   where

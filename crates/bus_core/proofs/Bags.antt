@@ -94,13 +94,13 @@ module _ (a : Inside) (old : Plain) (viewed : plain_of a ≡ old) (keeps : AreIn
     others_kept app same kept = λ other bag apart has.
         bag_after same.sizes other bag (kept other bag apart (bag_before other bag has)) (still_blocks a.store b.store other bag same (blocks_before other bag has))
 
-    -- where an application's own buffers change
+    -- if an application's own buffers change
     pub others_left : (app : ℕ) → b.store.account.sizes ≡ a.store.account.sizes → ((other : ℕ) (bag : Holding LentBytes) → (other ≡ app → ⊥) → HasViews a.store other bag → HasViews b.store other bag) →
         ((other : ℕ) (bag : Holding LentBytes) → (other ≡ app → ⊥) → HasBlocks a.store other bag → HasBlocks b.store other bag) → KeepsOtherBags old (plain_of b) app
     others_left app sizes views blocks = λ other bag apart has.
         bag_after sizes other bag (views other bag apart (bag_before other bag has)) (blocks other bag apart (blocks_before other bag has))
 
-    -- the application's own, where its views change
+    -- the application's own, if its views change
     pub own_viewed : SameBuffers a.store b.store → (app : ℕ) (bag now : Holding LentBytes) → now ≡ record bag { views = now.views } → HasBag old app bag → HasViews b.store app now → HasBag (plain_of b) app now
     own_viewed same app bag now is has views =
         bag_after same.sizes app now views (viewed_blocks b.store app bag now is (still_blocks a.store b.store app bag same (blocks_before app bag has)))
@@ -111,7 +111,7 @@ module _ (a : Inside) (old : Plain) (viewed : plain_of a ≡ old) (keeps : AreIn
         own_viewed same app (with_lent bag lent) (with_lent now lent) (ap (λ (h : Holding LentBytes). with_lent h lent) is) has
         (record { seen = views.seen; counted = views.counted; room = views.room })
 
-    -- the application's own, where its buffers change
+    -- the application's own, if its buffers change
     pub part_blocked : b.store.account.sizes ≡ a.store.account.sizes → (app : ℕ) (bag now : Holding LentBytes) → now ≡ record bag { buffers = now.buffers } →
         ((held : Holding LentBytes) → HasViews a.store app held → HasViews b.store app held) → (lent : List UnsentBlock) →
         (HasBlocks a.store app (with_lent bag lent) → HasBlocks b.store app (with_lent now lent)) → HasBag old app (with_lent bag lent) → HasBag (plain_of b) app (with_lent now lent)

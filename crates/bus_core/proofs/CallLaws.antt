@@ -60,24 +60,24 @@ module _ (a : Inside) (store : Store) (acts : Vec Activity Global) (pools : Pool
       let P : Plain → Type 0 = λ o. Acts o (plain_of (record b { records = records })) app call answer in
       subst P viewed (record { made = acts_with limits w app call (cause limits w.bus app call) answer (means b) records refl made told; limits = refl })
 
-  -- where what is in use is looked at last
+  -- if what is in use is looked at last
   pub acts_seen : (told records : Recordings) → left_at a app call answer (means b) ≡ peaks_raised told (in_use (limits_of a.config) (means b).bus) → records ≡ peaks_raised told (in_use_at store) →
       IsPoolOf (limits_of a.config) store.account → IsHeld store → Acts old (plain_of (record b { records = records })) app call answer
   acts_seen told records is seen pool holds = acts_from records (is ∙ ap (peaks_raised told) (in_use_is b pool holds) ∙ sym seen)
 
-  -- where nothing is told, and nothing in use is above its peak
+  -- if nothing is told, and nothing in use is above its peak
   pub acts_quiet : is_quiet call ≡ true → leaves_desk call ≡ true → refusal_counter call answer ≡ [] →
       greater a.records.statistics.peak (in_use (limits_of a.config) (means b).bus) ≡ a.records.statistics.peak → Acts old (plain_of b) app call answer
   acts_quiet quiet leaves none covered =
       acts_from (recordings_of (means a).bus) (still_left (limits_of a.config) (means a).bus app call answer (means b).bus quiet leaves none covered)
 
-  -- where nothing is told, and what is in use is looked at last
+  -- if nothing is told, and what is in use is looked at last
   pub acts_looked : is_quiet call ≡ true → leaves_desk call ≡ true → refusal_counter call answer ≡ [] → (records : Recordings) → records ≡ peaks_raised a.records (in_use_at store) →
       IsPoolOf (limits_of a.config) store.account → IsHeld store → Acts old (plain_of (record b { records = records })) app call answer
   acts_looked quiet leaves none records seen pool holds =
       acts_seen (recordings_of (means a).bus) records (quiet_left (limits_of a.config) (means a).bus app call answer (means b).bus quiet leaves none) seen pool holds
 
--- where nothing changes, and nothing is told
+-- if nothing changes, and nothing is told
 pub acts_still : (a : Inside) (old : Plain) (app : ℕ) (call : Call) (answer : BusAnswer) → plain_of a ≡ old → Keeps a → bare (limits_of a.config) (means a) app call ≡ (answer, means a) →
     is_quiet call ≡ true → leaves_desk call ≡ true → refusal_counter call answer ≡ [] → Acts old old app call answer
 acts_still a old app call answer viewed keeps made quiet leaves none =
@@ -91,7 +91,7 @@ acts_still a old app call answer viewed keeps made quiet leaves none =
       limits = refl;
     })
 
--- what is always true, where what is in use was looked at last
+-- what is always true, if what is in use was looked at last
 pub seen_keeps : (b : Inside) (told : Recordings) → AreInOrder b → b.records ≡ peaks_raised told (in_use_at b.store) → IsHeld b.store → Keeps b
 seen_keeps b told order seen holds =
     let now = in_use_at b.store in
@@ -102,7 +102,7 @@ seen_keeps b told order seen holds =
     ∙ sym (ap (λ (r : Recordings). r.statistics.peak) seen) in
     record { order = order; covered = covered }
 
--- where the peaks stay, and what is in use
+-- if the peaks stay, and what is in use
 pub told_keeps : (a : Inside) (records : Recordings) → records.statistics.peak ≡ a.records.statistics.peak → Keeps a → Keeps (record a { records = records })
 told_keeps a records same keeps = record {
   order = keeps.order;

@@ -32,7 +32,7 @@ use Rattle.bus_core.proofs.Waits.{oldest_told, empty-none, empty-some, oldest-so
 
 -- The others. --
 
--- all but one pass where all before it pass and all behind it
+-- all but one pass if all before it pass and all behind it
 pub others_beside : {X : Type 0} (p : X → Bool) (xs : List X) (i : ℕ) (y : X) → i < length xs → p y ≡ true →
     (list_all p (take i xs) && list_all p (drop (i + 1) xs)) ≡ list_all p (set xs i y)
 others_beside {X} p xs i y within passes = rw add-one (beside xs i within)
@@ -73,7 +73,7 @@ pended-none a app pipe idle none is =
     ap (λ b. answer_by b (others_idle (means a).bus app) (oldest_number a.store.pipes pipe)) (empty-none a.store.pipes pipe none)
     ∙ ap (λ b. answer_by true b (oldest_number a.store.pipes pipe)) (others_idle-acts a app ∙ is)
 
--- where an answer says that the application waits, the pipe is empty and another is busy
+-- if an answer says that the application waits, the pipe is empty and another is busy
 waits_where : (empty idle : Bool) (number : ℕ) (answer : Pended) → waited answer ≡ answer_by empty idle number → (empty && not idle) ≡ is_pending answer
 waits_where false idle number (waits.Got n) is = refl
 waits_where false idle number waits.TimeOut is = absurd (cc (is))
@@ -89,7 +89,7 @@ waits_where true false number waits.Pending is = refl
 pending-test : (s : State) (app pipe : ℕ) (answer : Pended) → waited answer ≡ pended_answer s app pipe → (is_empty s.pipes pipe && not (others_idle s app)) ≡ is_pending answer
 pending-test s app pipe answer is = waits_where (is_empty s.pipes pipe) (others_idle s app) (oldest_number s.pipes pipe) answer is
 
--- where it waits, the pipe is empty
+-- if it waits, the pipe is empty
 pub pending_empty : (s : State) (app pipe : ℕ) (answer : Pended) → waited answer ≡ pended_answer s app pipe → is_pending answer ≡ true → is_empty s.pipes pipe ≡ true
 pending_empty s app pipe answer is waits = first (is_empty s.pipes pipe) (not (others_idle s app)) (pending-test s app pipe answer is ∙ waits)
   where

@@ -106,7 +106,7 @@ module _ (change : Pipe → Pipe) (numbers : (pipe : Pipe) → (change pipe).num
           ap (λ n. eqb n number && eqb (change pipe).owner app) (numbers pipe)
           ∙ ap (λ n. eqb pipe.number number && eqb n app) (owners pipe)
 
-  -- last messages stay, where the change keeps them
+  -- last messages stay, if the change keeps them
   pub lasts_changed : ((pipe : Pipe) → (change pipe).last ≡ pipe.last) → (pipes : List Pipe) (number : ℕ) → last_on (with_pipe change changed pipes) number ≡ last_on pipes number
   lasts_changed lasts [] number = refl
   lasts_changed lasts (pipe ∷ pipes) number = by_test (eqb pipe.number changed) (lasts_changed lasts pipes number)

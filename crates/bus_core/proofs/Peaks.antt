@@ -69,7 +69,7 @@ module _ (a : Inside) (keeps : Keeps a) (holds : IsHeld a.store) where
   covered_at : greater a.records.statistics.peak (in_use_at a.store) ≡ a.records.statistics.peak
   covered_at = ap (greater a.records.statistics.peak) (sym (in_use_is a keeps.order.pool holds)) ∙ keeps.covered
 
-  -- where a look at the blocks alone is one at all that is in use
+  -- if a look at the blocks alone is one at all that is in use
   pub blocks_seen : (told : Recordings) (next : Store) → told.statistics.peak ≡ a.records.statistics.peak → AreAsMany a.store next →
       peaks_raised told (blocks_in_use_at next) ≡ peaks_raised told (in_use_at next)
   blocks_seen told next same many =
@@ -93,7 +93,7 @@ module _ (a : Inside) (keeps : Keeps a) (holds : IsHeld a.store) where
       ∙ ap (λ n. to (max peak.msgids (length next.routes)) n (max peak.subs 0)) pipes
       ∙ ap (λ n. to (max peak.msgids (length next.routes)) (max peak.pipes (length next.pipes)) n) subs
 
-  -- where no look is needed
+  -- if no look is needed
   pub none_seen : (next : Store) → IsHeld next → IsPoolOf (limits_of a.config) next.account → AreAsMany a.store next → AreNoMore a.store next →
       greater a.records.statistics.peak (in_use (limits_of a.config) (means (record a { store = next })).bus) ≡ a.records.statistics.peak
   none_seen next held pool many fewer =

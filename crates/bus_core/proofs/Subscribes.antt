@@ -69,7 +69,7 @@ once_with_route routes id once = by_test (has_way routes id) refl
     by_test true is = once
     by_test false is = once_pushed routes (record { id = id; counted = 0 }) once is
 
--- an id has a next count where it has a route
+-- an id has a next count if it has a route
 has_next-rows : (starts : List (ℕ × ℕ)) (routes : List RouteRow) (id : ℕ) → has_next (map (next_of starts) routes) id ≡ has_way routes id
 has_next-rows starts routes id = any-map (λ (n : NextCount). eqb n.id id) (next_of starts) routes
 
@@ -186,7 +186,7 @@ id_last id valid = grind (arith, nat_tests)
 
 -- Ends of subscriptions. --
 
--- whether the pair was subscribed is told where it wasn't
+-- whether the pair was subscribed is told if it wasn't
 pub unsubscribed_left : (a : Inside) (app id pipe : ℕ) (t : State) (there : Bool) → there ≡ is_subscribed a.store.subscriptions id pipe →
     left (limits_of a.config) (means a).bus app (Unsubscribe id pipe) Done t
     ≡ peaks_raised (cond there a.records (told_event a.records (NotSubscribed id pipe))) (in_use (limits_of a.config) t)

@@ -85,7 +85,7 @@ way_of routes (sub ∷ subs) id first more all is =
 one_on : (start counted : ℕ) → ((start + counted + 1) % 16384 + 1) % 16384 ≡ (start + (counted + 1) % 16384 + 1) % 16384
 one_on start counted = omega arith
 
--- other ids' counts stay where the id has no route
+-- other ids' counts stay if the id has no route
 moved_none : (starts : List (ℕ × ℕ)) (routes : List RouteRow) (id : ℕ) → has_way routes id ≡ false → map (moved_on id) (map (next_of starts) routes) ≡ map (next_of starts) routes
 moved_none starts [] id none = refl
 moved_none starts (way ∷ routes) id none = by_test (eqb way.id id) none (moved_none starts routes id)

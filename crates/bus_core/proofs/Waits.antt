@@ -15,7 +15,7 @@ use Rattle.bus_core.specs.declared.receiving.Pended.TheVariants as waits
 abbrev pub oldest_told : List Pipe → ℕ → Option ℕ
 oldest_told pipes number = option_map (λ (item : Item). item.number) (oldest_on pipes number)
 
--- where none waits the pipe is empty
+-- if none waits the pipe is empty
 pub empty-none : (pipes : List Pipe) (number : ℕ) → oldest_told pipes number ≡ None → is_empty pipes number ≡ true
 empty-none pipes number none = at (pipe_at pipes number) none
   where
@@ -27,7 +27,7 @@ empty-none pipes number none = at (pipe_at pipes number) none
     at None none = refl
     at (Some pipe) none = queue_at pipe.queue none
 
--- where one waits it isn't
+-- if one waits it isn't
 pub empty-some : (pipes : List Pipe) (number n : ℕ) → oldest_told pipes number ≡ Some n → is_empty pipes number ≡ false
 empty-some pipes number n some = at (pipe_at pipes number) some
   where
@@ -55,7 +55,7 @@ oldest-some pipes number n some = same (pipe_at pipes number) ∙ ap (λ o. opti
     same None = refl
     same (Some pipe) = queue_at pipe.queue
 
--- where the pipe is empty none waits
+-- if the pipe is empty none waits
 pub none-told : (pipes : List Pipe) (number : ℕ) → is_empty pipes number ≡ true → oldest_on pipes number ≡ None
 none-told pipes number empty = at (pipe_at pipes number) empty
   where
@@ -70,7 +70,7 @@ none-told pipes number empty = at (pipe_at pipes number) empty
     at None empty = refl
     at (Some pipe) empty = queue_at pipe.queue empty
 
--- the number of a message, where one was received
+-- the number of a message, if one was received
 abbrev pub got_number : Pended → ℕ
 got_number (waits.Got number) = number
 got_number waits.TimeOut = 0
@@ -82,7 +82,7 @@ later : (given : ℕ) (xs ys : List Item) → All (λ (item : Item). IsGiven giv
 later given [] ys all = all
 later given (x ∷ xs) ys all = later given xs ys (All-tail (λ (item : Item). IsGiven given item.number) x (xs ++ ys) all)
 
--- what waits longest has a number that was given, where all items have
+-- what waits longest has a number that was given, if all items have
 pub oldest_given : (given : ℕ) (pipes : List Pipe) (number n : ℕ) → All (λ (item : Item). IsGiven given item.number) (items_of pipes) → oldest_told pipes number ≡ Some n → IsGiven given n
 oldest_given given [] number n all some = absurd (cc (some))
 oldest_given given (pipe ∷ pipes) number n all some = at (eqb pipe.number number) (oldest_given given pipes number n (later given pipe.queue (items_of pipes) behind)) some

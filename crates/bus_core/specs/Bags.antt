@@ -54,7 +54,7 @@ abbrev pub KeepsBag : Plain → Plain → ℕ → Holding LentBytes → Holding 
 KeepsBag old new app bag now =
     (lent : List Unsent) → HasBag old app (with_lent bag lent) → HasBag new app (with_lent now lent)
 
--- the same, where nothing of this number is lent out
+-- the same, if nothing of this number is lent out
 abbrev pub KeepsBagBut : Plain → Plain → ℕ → Holding LentBytes → Holding LentBytes → ℕ → Type 0
 KeepsBagBut old new app bag now number =
     (lent : List Unsent) → find (λ block. block.number == number) lent ≡ None →

@@ -53,7 +53,7 @@ impl<'r> PlainBus<'r> {
     ///
     /// # Errors
     /// `BadArgument` for fewer than 7 bytes; `MsgTooBig` for more bytes than the configuration
-    /// allows; `BufAlocErr` where the bus's pool has no block for so many. The first that applies;
+    /// allows; `BufAlocErr` if the bus's pool has no block for so many. The first that applies;
     /// it is counted. If no send number is left ([`PlainBus::has_send_number`]), every request is
     /// refused with `BufAlocErr`, whatever its size.
     pub fn allocate<L: Ledger>(
@@ -89,14 +89,14 @@ impl<'r> PlainBus<'r> {
 
     /// Sends the message that the caller's buffer begins with, as many bytes as its header says,
     /// under the buffer's number: the buffer's block is then the message's, and nothing is drawn or
-    /// copied. The buffer isn't the caller's any more. Where nobody subscribes to the id, the
-    /// answer is number 0, and no count moves; where somebody does and no pipe takes it, its own
+    /// copied. The buffer isn't the caller's any more. If nobody subscribes to the id, the
+    /// answer is number 0, and no count moves; if somebody does and no pipe takes it, its own
     /// number; its block goes back to the pool in both. All else is as with [`PlainBus::transmit`],
     /// but that the size was tested when the buffer was given. At most 4 steps for each
     /// subscription of the id, 8 more for each whose pipe drops a message, and 32 more.
     ///
     /// # Errors
-    /// `BufferInvalid` where this is no unsent buffer of the caller's; `BadArgument` where its
+    /// `BufferInvalid` if this is no unsent buffer of the caller's; `BadArgument` if its
     /// bytes don't begin with a message. The first that applies; it is counted, and the buffer
     /// stays as it is.
     pub fn transmit_buffer<L: Ledger>(
@@ -133,7 +133,7 @@ impl<'r> PlainBus<'r> {
     /// goes back to the pool. At most 32 steps.
     ///
     /// # Errors
-    /// `BufferInvalid` where this is no unsent buffer of the caller's; it is counted.
+    /// `BufferInvalid` if this is no unsent buffer of the caller's; it is counted.
     pub fn release<L: Ledger>(
         &mut self,
         app: AppNo,

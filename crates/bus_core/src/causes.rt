@@ -118,7 +118,7 @@ impl<'r> PlainBus<'r> {
     }
 }
 
-// The one refusal where the test is true.
+// The one refusal if the test is true.
 fn bad_argument_if(test: bool) -> Option<SbStatus>
     ensures { result ≡ refused_if test SbStatus.BadArgument None }
 {
@@ -158,7 +158,7 @@ fn is_bad_subscription(store: &BusStore<'_>, app: AppNo, id: u16, pipe: u32) -> 
     !is_valid_id(id) || !store.owns(app, pipe)
 }
 
-// Whether the id has no route where as many ids have one as may.
+// Whether the id has no route if as many ids have one as may.
 fn lacks_route(store: &BusStore<'_>, id: u16, most: u32) -> bool
     ensures { result ≡
         (not (has_way store.now.routes id) && nat_le most (length store.now.routes)) }

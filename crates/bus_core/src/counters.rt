@@ -25,8 +25,8 @@ impl<'r> PlainBus<'r> {
     /// message, and 32 more.
     ///
     /// # Errors
-    /// `MsgTooBig` where the configuration allows fewer bytes than the packet has; `BufAlocErr`
-    /// where somebody subscribes to its id, and the bus's pool has no block for it. The first that
+    /// `MsgTooBig` if the configuration allows fewer bytes than the packet has; `BufAlocErr`
+    /// if somebody subscribes to its id, and the bus's pool has no block for it. The first that
     /// applies; it is counted. If no send number is left ([`PlainBus::has_send_number`]), it is
     /// refused with `BufAlocErr`.
     pub fn send_housekeeping<L: Ledger>(

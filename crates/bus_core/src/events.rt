@@ -25,11 +25,11 @@ impl<'r> PlainBus<'r> {
     }
 
     /// Sends an event of the caller, with a text of at most 200 bytes. It is logged, with the first
-    /// 122 bytes of its text, where the caller's filter for its id lets it through or none is for
+    /// 122 bytes of its text, if the caller's filter for its id lets it through or none is for
     /// its id. Passed or not, the filter counts it.
     ///
     /// # Errors
-    /// `AppNotRegistered` where the caller isn't registered; the desk counts the refusal.
+    /// `AppNotRegistered` if the caller isn't registered; the desk counts the refusal.
     pub fn send_event(
         &mut self,
         app: AppNo,
@@ -50,7 +50,7 @@ impl<'r> PlainBus<'r> {
     /// Has the caller's filter for an event id count from 0 again.
     ///
     /// # Errors
-    /// `AppNotRegistered` where the caller isn't registered; `EvtNotRegistered` where none of its
+    /// `AppNotRegistered` if the caller isn't registered; `EvtNotRegistered` if none of its
     /// filters is for this id. The first that applies; the desk counts the refusal.
     pub fn reset_filter(&mut self, app: AppNo, id: u16) -> Result<(), EvsStatus>
         requires may { MayAct self.old app (ResetFilter id) }

@@ -24,7 +24,7 @@ use housekeeping::CounterName;
 use step_count::{Ledger, Steps};
 
 impl<'r> PlainBus<'r> {
-    /// [`PlainBus::allocate`] where blocks of the caller's may be lent out of its bag. The new one
+    /// [`PlainBus::allocate`] if blocks of the caller's may be lent out of its bag. The new one
     /// isn't. The caller leaves room in the bag for those that are.
     ///
     /// # Errors
@@ -72,7 +72,7 @@ impl<'r> PlainBus<'r> {
         Ok(number)
     }
 
-    /// [`PlainBus::transmit_buffer`] where blocks of the caller's may be lent out of its bag. This
+    /// [`PlainBus::transmit_buffer`] if blocks of the caller's may be lent out of its bag. This
     /// one isn't.
     ///
     /// # Errors
@@ -131,7 +131,7 @@ impl<'r> PlainBus<'r> {
         })
     }
 
-    /// [`PlainBus::release`] where blocks of the caller's may be lent out of its bag. This one
+    /// [`PlainBus::release`] if blocks of the caller's may be lent out of its bag. This one
     /// isn't.
     ///
     /// # Errors
@@ -166,7 +166,7 @@ impl<'r> PlainBus<'r> {
         Ok(())
     }
 
-    /// [`PlainBus::receive`] where blocks of the caller's may be lent out of its bag. Its views are
+    /// [`PlainBus::receive`] if blocks of the caller's may be lent out of its bag. Its views are
     /// all there.
     ///
     /// # Errors
@@ -211,7 +211,7 @@ impl<'r> PlainBus<'r> {
         Ok(number)
     }
 
-    /// [`PlainBus::pend`] where blocks of the caller's may be lent out of its bag. Its views are
+    /// [`PlainBus::pend`] if blocks of the caller's may be lent out of its bag. Its views are
     /// all there.
     ///
     /// # Errors
@@ -251,7 +251,7 @@ impl<'r> PlainBus<'r> {
         Ok(answer)
     }
 
-    /// [`PlainBus::look`] where blocks of the caller's may be lent out of its bag. Its views are
+    /// [`PlainBus::look`] if blocks of the caller's may be lent out of its bag. Its views are
     /// all there.
     pub fn look_lending(&mut self, app: AppNo, pipe: u32, held: &mut Held<'r>) -> Pended
         requires may { MayAct self.old app (Look pipe) }
@@ -279,7 +279,7 @@ impl<'r> PlainBus<'r> {
         answer
     }
 
-    /// [`PlainBus::delete_pipe`] where blocks of the caller's may be lent out of its bag. Its views
+    /// [`PlainBus::delete_pipe`] if blocks of the caller's may be lent out of its bag. Its views
     /// are all there.
     ///
     /// # Errors

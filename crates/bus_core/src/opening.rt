@@ -14,7 +14,7 @@ impl<'r> PlainBus<'r> {
     /// each pipe's last message and for so many unsent buffers.
     ///
     /// # Errors
-    /// Where memory runs out.
+    /// If memory runs out.
     pub fn new_bag(&self, alloc: Global, app: AppNo, buffers: u32) -> Result<Held<'r>, AllocError>
         requires unused { self.now ≡
             record {

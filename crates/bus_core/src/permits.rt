@@ -74,8 +74,8 @@ impl<'r> PlainBus<'r> {
         self.store.subscriptions_made() < u32::MAX
     }
 
-    /// Whether a number is left for one send or buffer more: 2^64 - 1 can be numbered. Where none
-    /// is left, each further one is refused, as where the bus's pool has no block.
+    /// Whether a number is left for one send or buffer more: 2^64 - 1 can be numbered. If none
+    /// is left, each further one is refused, as if the bus's pool has no block.
     pub fn has_send_number(&self) -> bool
         ensures { result ≡ has_send_number self.now.whole.bus }
     {

@@ -21,8 +21,8 @@ impl<'r> PlainBus<'r> {
     ///
     /// # Errors
     /// `BadArgument` for a depth of 0 or past the configuration's, and for a name that hasn't 1 to
-    /// 19 bytes; `MaxPipesMet` where as many pipes are live as the configuration allows;
-    /// `PipeCrErr` where a live pipe has the name. The first that applies; it is counted.
+    /// 19 bytes; `MaxPipesMet` if as many pipes are live as the configuration allows;
+    /// `PipeCrErr` if a live pipe has the name. The first that applies; it is counted.
     pub fn create_pipe(&mut self, app: AppNo, depth: u32, name: &[u8]) -> Result<u32, SbStatus>
         requires may { MayAct self.old app (Create depth name.now) }
         requires number { IsTrue (has_pipe_number self.old.whole.bus) }
@@ -113,7 +113,7 @@ impl<'r> PlainBus<'r> {
     /// Answers the number of the live pipe of this name, whoever's it is.
     ///
     /// # Errors
-    /// `BadArgument` where no live pipe has the name; it is counted.
+    /// `BadArgument` if no live pipe has the name; it is counted.
     pub fn find_pipe(&mut self, name: &[u8]) -> Result<u32, SbStatus>
         ensures does { (app : ℕ) → Acts self.old self.new app (Find name.now) (numbered result) }
         ensures bags { KeepsBags self.old self.new }

@@ -56,7 +56,7 @@ impl<'r> PlainBus<'r> {
     /// bus's pool are cut from the region.
     ///
     /// # Errors
-    /// Where memory runs out.
+    /// If memory runs out.
     pub fn new(
         alloc: Global,
         cfg: &Config,

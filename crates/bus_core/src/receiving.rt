@@ -43,13 +43,13 @@ impl Pended {
 
 impl<'r> PlainBus<'r> {
     /// Takes the oldest message that waits on the caller's pipe, and answers its number: its view
-    /// is put into the caller's bag. The last message received from the pipe is let go, also where
-    /// none waits: its view is taken out of the bag, and where no other pipe names it, its block
+    /// is put into the caller's bag. The last message received from the pipe is let go, also if
+    /// none waits: its view is taken out of the bag, and if no other pipe names it, its block
     /// goes back to the pool. At most 32 steps.
     ///
     /// # Errors
     /// `BadArgument` for a pipe that isn't live or isn't the caller's, which is counted;
-    /// `NoMessage` where none waits. The first that applies.
+    /// `NoMessage` if none waits. The first that applies.
     pub fn receive<L: Ledger>(
         &mut self,
         app: AppNo,
@@ -77,10 +77,10 @@ impl<'r> PlainBus<'r> {
     }
 
     /// Takes the oldest message that waits on the caller's pipe, and answers its number: its view
-    /// is put into the caller's bag. Where none waits, it is a time-out if every other application
+    /// is put into the caller's bag. If none waits, it is a time-out if every other application
     /// has ended or waits on an empty pipe; otherwise the caller waits on the pipe from then on and
     /// looks again by [`PlainBus::look`]. The last message received from the pipe is let go in each
-    /// case: its view is taken out of the bag, and where no other pipe names it, its block goes
+    /// case: its view is taken out of the bag, and if no other pipe names it, its block goes
     /// back to the pool. At most 32 steps.
     ///
     /// # Errors
@@ -110,7 +110,7 @@ impl<'r> PlainBus<'r> {
         self.pend_lending(app, pipe, held, steps)
     }
 
-    /// The pipe that the application waits on; 0, which no pipe has, where it doesn't wait.
+    /// The pipe that the application waits on; 0, which no pipe has, if it doesn't wait.
     pub fn pipe_waited_on(&self, app: AppNo) -> u32
         requires { app ≤ apps_in self.now }
         ensures { result ≡ waited_on (standing_of self.now.whole.bus app) }
@@ -120,7 +120,7 @@ impl<'r> PlainBus<'r> {
 
     /// Looks again for a message on this pipe, which the caller waits on
     /// ([`PlainBus::pipe_waited_on`]). The view of a message is put into the caller's bag. With a
-    /// message or a time-out the caller makes calls again. Where it still waits, nothing changes.
+    /// message or a time-out the caller makes calls again. If it still waits, nothing changes.
     /// Nothing is let go: the pipe has no last message since the caller waits on it.
     pub fn look(&mut self, app: AppNo, pipe: u32, held: &mut Held<'r>) -> Pended
         requires may { MayAct self.old app (Look pipe) }
@@ -258,7 +258,7 @@ fn has_message(activity: &Activity, store: &BusStore<'_>) -> bool
     is_waiting(activity) && !is_idle(activity, store)
 }
 
-/// Has the application wait on the pipe where it was told so.
+/// Has the application wait on the pipe if it was told so.
 pub(crate) fn set_waiting(activities: &mut Vec<Activity>, app: AppNo, pipe: u32, answer: &Pended)
     requires { app ≤ length activities.old.items }
     ensures { activities.new.items ≡

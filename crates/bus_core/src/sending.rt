@@ -18,7 +18,7 @@ use step_count::{Ledger, Steps};
 /// What an accepted send was answered.
 #[derive(Clone, Copy, Debug, PartialEq, Eq)]
 pub struct Sent {
-    /// The number of the message, from 1; 0 where nobody subscribes to its id.
+    /// The number of the message, from 1; 0 if nobody subscribes to its id.
     pub number: u64,
     /// How many pipes it reached.
     pub reached: u32,
@@ -26,7 +26,7 @@ pub struct Sent {
 
 impl<'r> PlainBus<'r> {
     /// Sends a message to every pipe that is subscribed to its id, in order of subscription. A pipe
-    /// misses it that ignores what its owner sends and whose owner is the sender; else one where as
+    /// misses it that ignores what its owner sends and whose owner is the sender; else one if as
     /// many messages of the subscription wait as its limit says; else one that is full and hasn't
     /// option 0x02. A full pipe with option 0x02 drops the message that waits longest and takes
     /// this one. The bus logs and counts each pipe that is over its limit, is full or drops a
@@ -37,7 +37,7 @@ impl<'r> PlainBus<'r> {
     ///
     /// # Errors
     /// `BadArgument` for bytes that are no message; `MsgTooBig` for more bytes than the
-    /// configuration allows; `BufAlocErr` where somebody subscribes to the id, and the bus's pool
+    /// configuration allows; `BufAlocErr` if somebody subscribes to the id, and the bus's pool
     /// has no block for so many bytes. The first that applies; it is counted. If no send number is
     /// left ([`PlainBus::has_send_number`]), every send is refused with `BufAlocErr`, whatever its
     /// bytes.

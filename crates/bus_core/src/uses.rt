@@ -36,7 +36,7 @@ pub(crate) fn see(records: &mut Records, store: &BusStore<'_>)
     records.see(in_use_at(store));
 }
 
-/// Raises the peaks of the blocks in use and of their bytes, where what is in use at the store
+/// Raises the peaks of the blocks in use and of their bytes, if what is in use at the store
 /// exceeds them. It is for a call that makes no pipe, no subscription and no route.
 pub(crate) fn see_blocks(records: &mut Records, store: &BusStore<'_>)
     ensures seen { records.new ≡ peaks_raised records.old (blocks_in_use_at store.now) }
@@ -54,7 +54,7 @@ pub(crate) fn see_blocks(records: &mut Records, store: &BusStore<'_>)
     });
 }
 
-/// Tells the event where the test is false.
+/// Tells the event if the test is false.
 pub(crate) fn tell_unless(records: &mut Records, test: bool, event: ServiceEvent)
     ensures { records.new ≡ (if test then records.old else told_event records.old event) }
 {

@@ -1,5 +1,5 @@
 -- What a call of the bus leaves of the event desk and the statistics, for each shape of call: what the records' own calls leave.
--- Where a call leaves the peaks as they are, what is in use afterwards has to be covered by them.
+-- If a call leaves the peaks as they are, what is in use afterwards has to be covered by them.
 use Rattle.std.proofs.Common.{◌≡◌, ℕ, Bool, true, false, cond, List, [], ◌∷◌, ◌++◌, Option, refl, ap, sym, ◌∙◌}
 use Rattle.std.specs.Prelude.{fold, flat_map}
 use Rattle.ccsds_msg.specs.Message.{message_id}
@@ -70,7 +70,7 @@ module _ (limits : Limits) (s : State) (app : ℕ) where
   abbrev IsCovered : State → Type 0
   IsCovered t = greater s.statistics.peak (in_use limits t) ≡ s.statistics.peak
 
-  -- what is left, where the bus tells this of the call, and its refusal raises these counters
+  -- what is left, if the bus tells this of the call, and its refusal raises these counters
   left_by : (call : Call) (answer : BusAnswer) (t : State) (events : List ServiceEvent) (names : List CounterName) →
       call_events s app call answer ≡ events → refusal_counter call answer ≡ names →
       left limits s app call answer t
@@ -186,7 +186,7 @@ module _ (limits : Limits) (s : State) (app : ℕ) where
       left_by (Unsubscribe id pipe) Done t [] []
       (ap (λ (b : Bool). cond {A = List ServiceEvent} b [] (NotSubscribed id pipe ∷ [])) live) refl
 
-  -- where there was none, it is told
+  -- if there was none, it is told
   pub not_subscribed_left : (id pipe : ℕ) (t : State) → is_subscribed s.subscriptions id pipe ≡ false →
       left limits s app (Unsubscribe id pipe) Done t ≡ peaks_raised (told_event records (NotSubscribed id pipe)) (in_use limits t)
   unfolding call_events desk_by

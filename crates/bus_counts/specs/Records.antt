@@ -28,7 +28,7 @@ counter_ticked records name =
           { counts = ticked records.statistics.counts name };
     }
 
--- each peak rises to what is in use, where that is more
+-- each peak rises to what is in use, if that is more
 abbrev pub peaks_raised : Recordings → InUse → Recordings
 peaks_raised records now =
     record records

@@ -46,7 +46,7 @@ impl Records {
     /// Records of a bus on which no call was made. They take the memory of all lines of the log.
     ///
     /// # Errors
-    /// `AllocError` where memory runs out.
+    /// `AllocError` if memory runs out.
     pub fn new(alloc: Global) -> Result<Records, AllocError>
         ensures { IfOk result (λ records. records ≡ no_recordings) }
     {
@@ -56,7 +56,7 @@ impl Records {
         })
     }
 
-    /// Tells an event of the bus: the desk is served it, and its counter goes up, where it has one.
+    /// Tells an event of the bus: the desk is served it, and its counter goes up, if it has one.
     /// No text is made for a log that drops the line.
     pub fn tell(&mut self, event: ServiceEvent)
         ensures { self.new ≡ told_event self.old event }
@@ -119,7 +119,7 @@ impl Records {
     /// Sends an event of an application, whose text may have any length.
     ///
     /// # Errors
-    /// `AppNotRegistered` exactly where the application isn't registered; the desk counts it.
+    /// `AppNotRegistered` if and only if the application isn't registered; the desk counts it.
     pub fn send_event(
         &mut self,
         app: AppNo,
@@ -137,8 +137,8 @@ impl Records {
     /// Sets the count of an application's filter for this event id to 0.
     ///
     /// # Errors
-    /// `AppNotRegistered` exactly where the application isn't registered; else `EvtNotRegistered`
-    /// exactly where none of its filters is for this id. The desk counts a refusal.
+    /// `AppNotRegistered` if and only if the application isn't registered; else `EvtNotRegistered`
+    /// if and only if none of its filters is for this id. The desk counts a refusal.
     pub fn reset_filter(&mut self, app: AppNo, id: u16) -> Result<(), EvsStatus>
         ensures refusal { result_err result ≡ reset_refusal self.old.events app id }
         ensures records { self.new ≡
@@ -185,7 +185,7 @@ impl Records {
     }
 }
 
-// Serves the desk an event of the bus, whose text is made only where the log takes the line.
+// Serves the desk an event of the bus, whose text is made only if the log takes the line.
 fn serve(events: &mut EventDesk, event: &ServiceEvent)
     ensures { events.new ≡ served_event events.old event.now }
 {
@@ -194,7 +194,7 @@ fn serve(events: &mut EventDesk, event: &ServiceEvent)
     }
 }
 
-// Serves the desk an event where the log drops its line, and answers whether it does.
+// Serves the desk an event if the log drops its line, and answers whether it does.
 fn drop_event(events: &mut EventDesk, event: &ServiceEvent) -> bool
     ensures { events.new ≡
         (if result then served_event events.old event.now else events.old) }
@@ -219,7 +219,7 @@ fn log_event(events: &mut EventDesk, event: &ServiceEvent)
 }
 
 // Serves the desk with its text that a pipe missed a message of this id and sender. It stands apart
-// so that where the log drops the line no event is made in memory.
+// so that if the log drops the line no event is made in memory.
 #[inline(never)]
 fn log_miss(events: &mut EventDesk, miss: &Miss, id: u16, sender: AppNo)
     ensures { events.new ≡ served_event events.old (miss_event id sender miss.now) }

@@ -74,7 +74,7 @@ impl ServiceEvent {
         }
     }
 
-    /// The event's kind: an error where a pipe missed a message, else information.
+    /// The event's kind: an error if a pipe missed a message, else information.
     pub fn kind(&self) -> EventKind
         ensures { result ≡ event_kind self.now }
     {
@@ -88,7 +88,7 @@ impl ServiceEvent {
         }
     }
 
-    /// Does nothing; a proof learns of it that the text is short, also where it isn't made.
+    /// Does nothing; a proof learns of it that the text is short, also if it isn't made.
     #[tactic(auto, unfolding(crate::specs::Events::event_text))]
     pub fn recall_text(&self)
         ensures { length (event_text self.now) ≤ TEXT_BYTES }

@@ -1,6 +1,6 @@
 //! Two programs as a user of the bus writes them: one over the bus without a journal, and one over
 //! ports on threads. In each, one application listens and another sends, and what was received is
-//! printed. Each call is made where a test says that the application may make it.
+//! printed. Each call is made if a test says that the application may make it.
 #![tactic(auto)]
 
 mod message;

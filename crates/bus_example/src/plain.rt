@@ -13,10 +13,10 @@ use std::marker::Brand;
 use step_count::{Blank, Ledger, Steps};
 
 /// Has application 2 send a message to application 1. Answers how many bytes it received, None
-/// where a call was refused.
+/// if a call was refused.
 ///
 /// # Errors
-/// Where memory runs out.
+/// If memory runs out.
 pub fn run(alloc: Global) -> Result<Option<usize>, AllocError> {
     let cfg = Config::usual();
     let mut region = vec![in alloc; 0; cfg.pool as usize]?;

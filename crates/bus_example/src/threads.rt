@@ -28,10 +28,10 @@ struct App<'e, 'r> {
 }
 
 /// Has application 2 send a message to application 1, each on a thread. Answers how many bytes it
-/// received, None where a call was refused.
+/// received, None if a call was refused.
 ///
 /// # Errors
-/// Where memory runs out.
+/// If memory runs out.
 pub fn run<R: Threads + Wait + Sync>(rt: &R, alloc: Global) -> Result<Option<usize>, AllocError> {
     let cfg = Config::usual();
     let mut region = vec![in alloc; 0; cfg.pool as usize]?;

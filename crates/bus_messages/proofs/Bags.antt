@@ -112,7 +112,7 @@ owns-changed change kept mine (row ∷ rows) number app other =
 
 -- How many views are due. --
 
--- 1 where a pipe is the application's and has a last message
+-- 1 if a pipe is the application's and has a last message
 abbrev pub has_view : ℕ → Row → Bool
 has_view app row = eqb row.owner app && is_some row.last
 

@@ -107,7 +107,7 @@ below-one (suc n) (suc d) f h none =
 
 -- Blocks. --
 
--- where no row's item is of the number, none of the pipes' is
+-- if no row's item is of the number, none of the pipes' is
 none_of : (slots : List Slot) (n : ℕ) (rows : List Row) → AllItems (λ i. i.number ≡ n → ⊥) rows → find (of_number n) (items_of (pipes_in slots rows)) ≡ None
 none_of slots n rows none = find_none (items_of (pipes_in slots rows)) (of_items slots (λ (i : Item). i.number ≡ n → ⊥) rows none)
   where
@@ -224,7 +224,7 @@ module _ (b : Buffers) (rows : List Row) (lists : List (List ℕ)) (given : ℕ)
   pub block_class : (d : ℕ) → is_live (slot_at b.slots d) ≡ true → class_of (asked_of pipes unsent (number d)) b.pool.sizes ≡ Some (class_at b.pool d)
   block_class d live = ap (λ n. class_of n b.pool.sizes) (block_asked d live) ∙ backed.tied.sizes d live
 
-  -- Where each block weighs as much as its number is worth, the blocks that are out weigh as much as the numbers that are held are worth.
+  -- If each block weighs as much as its number is worth, the blocks that are out weigh as much as the numbers that are held are worth.
   module _ (live_out : (d : ℕ) → is_live (slot_at b.slots d) ≡ is_out b.pool d) (weight worth : ℕ → ℕ) (fair : (d : ℕ) → is_live (slot_at b.slots d) ≡ true → weight d ≡ worth (number d)) where
     abbrev counted : ℕ → Bool → ℕ
     counted d x = cond {A = ℕ} (is_out b.pool d && x) (weight d) 0

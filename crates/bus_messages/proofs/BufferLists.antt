@@ -82,7 +82,7 @@ module _ {X : Type 0} (f : ℕ → X) (key : X → ℕ) where
           by_case (inl same) = absurd (off (eqb (key (f x)) (key (f d))) e (ap (λ y. eqb (key (f x)) (key (f y))) same ∙ eqb_same (key (f x))))
           by_case (inr other) = other.1
 
-  -- where nothing has the key nothing is found
+  -- if nothing has the key nothing is found
   pub search_none : (ds : List ℕ) (n : ℕ) → ((d : ℕ) → 0 < times_in ds d → key (f d) ≡ n → ⊥) → search ds n ≡ None
   search_none [] n never = refl
   search_none (x ∷ ds) n never =
@@ -227,7 +227,7 @@ module _ (slots : List Slot) (lists : List (List ℕ)) (listed : AreListed slots
         ∙ ap (λ o. option_map_or {U = ℕ} (λ (one : BufferDesc). one.desc) o 0)
         (search_found (desc_in slots) (λ (one : BufferDesc). one.number) (flat lists) d (λ e h same. one_of d e is (flat_open e h) same) (open_flat d is))
 
-    -- where no unsent block has the number, there is none
+    -- if no unsent block has the number, there is none
     pub desc_none : (n : ℕ) → ((d : ℕ) → is_open (slot_at slots d) ≡ true → number_in (slot_at slots d) ≡ n → ⊥) → desc_of (descs_in slots lists) n ≡ 0
     desc_none n never =
         ap (λ l. desc_of l n) (descs-flat (desc_in slots) lists)
@@ -309,7 +309,7 @@ module _ (slots : List Slot) (lists : List (List ℕ)) (listed : AreListed slots
           at (inl m) = m
           at (inr never) = absurd (off (has_unsent (unsent_in slots lists) app n) (ap is_some (mine_none n never)) has)
 
--- The descriptor of a number stays where its unsent block does. --
+-- The descriptor of a number stays if its unsent block does. --
 
 module _ (slots after : List Slot) (lists lists' : List (List ℕ)) (listed : AreListed slots lists) (listed' : AreListed after lists') (own : HaveOwnNumbers slots) (own' : HaveOwnNumbers after) (n : ℕ)
     (stays : (d : ℕ) → is_open (slot_at slots d) ≡ true → number_in (slot_at slots d) ≡ n → slot_at after d ≡ slot_at slots d)

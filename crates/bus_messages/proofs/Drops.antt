@@ -143,7 +143,7 @@ module _ (b : Buffers) (x : ItemRow) (xs : List ItemRow) (loose : AreLoose b (x 
 
 -- With the ties. --
 
--- the blocks with their ties, where these items have uses still, beside those that wait or were received last
+-- the blocks with their ties, if these items have uses still, beside those that wait or were received last
 pub record HaveLoose (b : Buffers) (rows : List Row) (items : List ItemRow) (given : ℕ) : Type 0 where
   pub tied : AreTied b rows (λ n. uses_of n rows + uses_among n items) (λ n. lasts_of n rows) given
   pub used : AreUsed b

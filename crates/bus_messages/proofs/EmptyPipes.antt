@@ -54,7 +54,7 @@ owns-received number (pipe ∷ pipes) app other =
 
 -- What waits. --
 
--- one fewer waits, where one did
+-- one fewer waits, if one did
 fewer_wait : (pipes : List Pipe) (number n : ℕ) → option_map (λ (i : Item). i.number) (oldest_on pipes number) ≡ Some n → waiting_on (with_pipe after_receive number pipes) number + 1 ≡ waiting_on pipes number
 fewer_wait pipes number n is = ap (λ o. option_map_or {U = ℕ} (λ (p : Pipe). length p.queue) o 0 + 1) (pipe_at-received number pipes) ∙ by_pipe (pipe_at pipes number) is
   where
@@ -67,7 +67,7 @@ fewer_wait pipes number n is = ap (λ o. option_map_or {U = ℕ} (λ (p : Pipe).
     by_pipe None e = absurd (cc (e))
     by_pipe (Some p) e = by_queue p.queue e
 
--- none waits, where none did
+-- none waits, if none did
 none_waits : (pipes : List Pipe) (number : ℕ) → option_map (λ (i : Item). i.number) (oldest_on pipes number) ≡ None → oldest_on (with_pipe after_receive number pipes) number ≡ None
 none_waits pipes number none = ap (option_and_then (λ (p : Pipe). oldest p.queue)) (pipe_at-received number pipes) ∙ by_pipe (pipe_at pipes number) none
   where

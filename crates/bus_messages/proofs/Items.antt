@@ -47,7 +47,7 @@ items_both P Q rows p q = λ k d within.
       last = if_some_both P Q _ one.last other.last;
     }
 
--- where one pipe changes
+-- if one pipe changes
 pub items_with_row : (P : ItemRow → Type 0) (change : Row → Row) (number : ℕ) → ((row : Row) → OfItems P row → OfItems P (change row)) →
     (rows : List Row) → AllItems P rows → AllItems P (with_pipe change number rows)
 items_with_row P change number keeps [] all = All-nil (OfItems P)

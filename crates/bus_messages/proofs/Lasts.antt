@@ -94,7 +94,7 @@ like_delivered sending (sub ∷ subs) pipes =
 abbrev pub HasDue : Store → ℕ → Holding LentBytes → Type 0
 HasDue store app bag = HoldsViews store.pipes store.loans store.room.pipes app bag
 
--- and so where the same is due
+-- and so if the same is due
 pub holds_same : (old new : Store) (app : ℕ) (bag : Holding LentBytes) → ((number : ℕ) → view_due new.pipes new.loans app number ≡ view_due old.pipes old.loans app number) → views_due new.pipes app ≡ views_due old.pipes app → new.room ≡ old.room →
     HasDue old app bag → HasDue new app bag
 holds_same old new app bag due views room holds = record {
@@ -112,7 +112,7 @@ holds_like old new app bag like loans room =
     ∙ ap (λ ls. cond {A = Option LentBytes} (owns old.pipes app number) (option_map (λ (i : Item). record { loan = option_map_or {U = ℕ} (λ (one : LastLoan). one.loan) (find (λ (one : LastLoan). eqb one.pipe number) ls) 0; bytes = i.message }) (last_on old.pipes number)) None) loans)
     (like.views app) room
 
--- where the pipes stay
+-- if the pipes stay
 pub holds_still : (old new : Store) (app : ℕ) (bag : Holding LentBytes) → new.pipes ≡ old.pipes → new.loans ≡ old.loans → new.room ≡ old.room → HasDue old app bag → HasDue new app bag
 holds_still old new app bag pipes loans room =
     holds_like old new app bag (subst (AreLike old.pipes) (sym pipes) (record { owns = λ a n. refl; last = λ n. refl; views = λ a. refl })) loans room

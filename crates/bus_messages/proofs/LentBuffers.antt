@@ -28,7 +28,7 @@ neither None None e = (refl, refl)
 neither None (Some b) e = absurd (cc (e))
 neither (Some b) other e = absurd (cc (e))
 
--- where the whole has none of a number, neither the lent ones nor the bag have one
+-- if the whole has none of a number, neither the lent ones nor the bag have one
 pub none_lent : (bag : Holding LentBytes) (lent : List UnsentBlock) (number : ℕ) → buffer_at (with_lent bag lent) number ≡ None → lent_at lent number ≡ None
 none_lent bag lent number none = (neither (lent_at lent number) (buffer_at bag number) (sym (split bag lent number) ∙ none)).0
 

@@ -60,7 +60,7 @@ module _ (slots : List Slot) (lists : List (List ℕ)) (listed : AreListed slots
       shape : ℕ → Buffer → Shape
       shape k b = record { desc = k; size = size_for sizes b.size; asked = b.size }
 
--- where the application has the same block of the number, or none as before, the same is due
+-- if the application has the same block of the number, or none as before, the same is due
 pub record HasStill (slots after : List Slot) (ds ds' : List ℕ) (n : ℕ) : Type 0 where
   pub there : (e : ℕ) → 0 < times_in ds e → number_in (slot_at slots e) ≡ n → 0 < times_in ds' e
   pub same : (e : ℕ) → 0 < times_in ds e → number_in (slot_at slots e) ≡ n → slot_at after e ≡ slot_at slots e

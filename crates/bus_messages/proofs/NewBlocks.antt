@@ -57,7 +57,7 @@ added old mid new size number len loan block sent message taken own is long same
           numbers_changed mid.slots block.desc (Sealed what) live (λ _. sym (ap number_in own.0)) (numbers_drawn old mid size number block taken own kept new_there);
     }
 
--- the same where the block was drawn, written and sealed in one call
+-- the same if the block was drawn, written and sealed in one call
 pub put_added : (old new : Buffers) (number loan desc : ℕ) (bytes message : List ℕ) →
     length message ≡ length bytes → desc ≤ length old.slots → is_live (slot_at old.slots desc) ≡ false → DrawsFor old.pool new.pool (length bytes) desc →
     new.slots ≡ placed old.slots desc (Sealed (record { number = number; asked = length bytes; size = size_at new.pool desc; bytes = message; uses = 0; loan = loan; views = 0 })) →
@@ -86,7 +86,7 @@ put_added old new number loan desc bytes message long next fresh draws e =
         ∙ (ap (λ sent. placed old.slots desc (Sealed (seal (length message) sent))) (sym (take_all message (length bytes) (sym long)))
         ∙ sym (placed_again old.slots desc (Unsent number (length bytes)) (Sealed (seal (length message) (take (length bytes) message))) next))))
 
--- the block is of the desk where other bytes are in it, as many as before
+-- the block is of the desk if other bytes are in it, as many as before
 pub own_as : (b : Buffers) (block sent : UnsentBlock) (message : List ℕ) → sent ≡ record block { bytes = message } → length sent.bytes ≡ length block.bytes → IsOf b block → IsOf b sent
 own_as b block sent message is long own = (
   ap (λ (x : UnsentBlock). slot_at b.slots x.desc) is ∙ own.0 ∙ ap (Unsent block.number) (sym long) ∙ ap (λ (x : UnsentBlock). Unsent x.number (length sent.bytes)) (sym is),

@@ -60,7 +60,7 @@ sum_without w number below (row ∷ rows) rises = by_test (eqb row.number number
         omega (arith, rest, sum_by-cons w row rows)
     by_test false e later = omega (arith, later, sum_by-cons w row rows, sum_by-cons w row (filter (stays number) rows))
 
--- and stays where that is nothing
+-- and stays if that is nothing
 sum_stays : (w : Row → ℕ) (number : ℕ) (rows : List Row) → IsRising 0 rows → oldest_on rows number ≡ None → last_on rows number ≡ None →
     ((row : Row) → oldest row.queue ≡ None → row.last ≡ None → w row ≡ 0) → sum_by w (filter (stays number) rows) ≡ sum_by w rows
 sum_stays w number rows rises waits last none = let sum = sum_without w number 0 rows rises in omega (arith, sum, by_row (pipe_at rows number) waits last)
@@ -129,7 +129,7 @@ loan_other number other apart new old loans =
     ∙ ap (λ o. option_map_or {U = ℕ} (λ (one : LastLoan). one.loan) o 0)
     (find_within (λ (one : LastLoan). eqb one.pipe other) (λ (one : LastLoan). not (eqb one.pipe number)) (λ one. keeps one.pipe number other apart) old.loans)
 
--- what is due of pipes stays, where the one that leaves has no last message
+-- what is due of pipes stays, if the one that leaves has no last message
 due_stays : (old new : Store) (number : ℕ) → last_on old.pipes number ≡ None → new.pipes ≡ filter (λ (p : Pipe). not (eqb p.number number)) old.pipes →
     new.loans ≡ filter (λ (one : LastLoan). not (eqb one.pipe number)) old.loans → (app other : ℕ) → view_due new.pipes new.loans app other ≡ view_due old.pipes old.loans app other
 due_stays old new number last pipes loans app other = at (cases_eq number other)

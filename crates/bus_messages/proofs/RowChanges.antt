@@ -14,7 +14,7 @@ use Rattle.bus_routes.specs.Rows.{Row, offer_of, deliver_rows, reached_rows, dro
 use Rattle.bus_words.proofs.MissedItems.{misses_of-map}
 use Rattle.bus_messages.specs.Inside.{item_in, OfItems, AllItems}
 
--- a change of what the items of a pipe are read as changes nothing where they are read alike
+-- a change of what the items of a pipe are read as changes nothing if they are read alike
 queue_alike : (read other : ItemRow → Item) (queue : List ItemRow) → All (λ i. read i ≡ other i) queue → map read queue ≡ map other queue
 queue_alike read other [] same = refl
 queue_alike read other (i ∷ queue) same =

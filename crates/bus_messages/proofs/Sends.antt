@@ -228,7 +228,7 @@ module _ (b mid : Buffers) (rows : List Row) (subs : List Subscription) (sending
       let e = others other apart in
       subst (λ s. 1 ≤ (sealed_in s).uses) (sym e) (backed.used other (sym (ap is_sealed e) ∙ is))
 
-  -- where some pipe took it
+  -- if some pipe took it
   sent_some : leb 1 count ≡ true → IsSent b mid counted rows subs sending given' desc count
   sent_some is = record {
     have = record { tied = tied; used = λ other sealed. used other sealed (cases_eq desc other); named = loose_named };
@@ -248,7 +248,7 @@ module _ (b mid : Buffers) (rows : List Row) (subs : List Subscription) (sending
       used other sealed (inl same) = subst (λ x. 1 ≤ (sealed_at counted.slots x).uses) same (subst (λ s. 1 ≤ (sealed_in s).uses) (sym here) (some 1 count is))
       used other sealed (inr apart) = used_there other apart sealed
 
-  -- where none did
+  -- if none did
   abbrev gone : Buffers
   gone = freed counted desc
 

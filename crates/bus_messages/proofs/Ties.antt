@@ -230,7 +230,7 @@ tied_moved b after d rows rows' uses views uses' views' given given' tied moves 
         ∙ tied.sizes other was
         ∙ ap Some (sym (moves.class_same other apart was))
 
--- numbers differ where blocks do
+-- numbers differ if blocks do
 pub other_number : (slots : List Slot) (d other : ℕ) → HaveOwnNumbers slots → is_sealed (slot_at slots d) ≡ true → is_sealed (slot_at slots other) ≡ true → (d ≡ other → ⊥) →
     (sealed_at slots d).number ≡ (sealed_at slots other).number → ⊥
 other_number slots d other own is also apart same =
@@ -328,7 +328,7 @@ open_then first next last a b = record {
   none_new = λ d e. a.none_new d (b.none_new d e);
 }
 
--- so where one block changed that was not unsent and isn't
+-- so if one block changed that was not unsent and isn't
 pub open_apart : (slots after : List Slot) (d : ℕ) → ((other : ℕ) → (d ≡ other → ⊥) → slot_at after other ≡ slot_at slots other) →
     is_open (slot_at slots d) ≡ false → is_open (slot_at after d) ≡ false → KeepsOpen slots after
 open_apart slots after d others was is = record {

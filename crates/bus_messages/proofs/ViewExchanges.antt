@@ -62,7 +62,7 @@ module _ (b : Buffers) (last next : ItemRow) (is : is_sealed (slot_at b.slots la
   off : true ≡ false → ⊥
   off x = cc
 
-  -- where both are one block, it has another use
+  -- if both are one block, it has another use
   used_twice : d ≡ e → leb 2 old.uses ≡ true
   used_twice same = at (leb 2 old.uses) refl
     where
@@ -90,7 +90,7 @@ module _ (b : Buffers) (last next : ItemRow) (is : is_sealed (slot_at b.slots la
 
   -- What is seen on the way. --
 
-  -- the last one's block, once the next one has its view: it is the same, but for a view where both are one block
+  -- the last one's block, once the next one has its view: it is the same, but for a view if both are one block
   given_slot : (P : Slot → Type 0) → P (slot_at b.slots d) → (d ≡ e → P (Sealed (record old { views = old.views + 1 }))) → P (slot_at given.slots d)
   given_slot P was one = at (cases_eq d e)
     where

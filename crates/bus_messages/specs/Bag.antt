@@ -12,13 +12,13 @@ use Rattle.bus_messages.specs.Words.{loan_of, desc_of, size_for}
 
 -- Views. --
 
--- the view of the last message of the pipe of this number, where it has one
+-- the view of the last message of the pipe of this number, if it has one
 abbrev pub last_view : List Pipe → List LastLoan → ℕ → Option LentBytes
 last_view pipes loans number =
     option_map (λ item. record { loan = loan_of loans number; bytes = item.message })
     (last_on pipes number)
 
--- the view that the application has of the pipe of this number: of its last message, where the pipe
+-- the view that the application has of the pipe of this number: of its last message, if the pipe
 -- is its own
 abbrev pub view_due : List Pipe → List LastLoan → ℕ → ℕ → Option LentBytes
 view_due pipes loans app number =
@@ -50,7 +50,7 @@ abbrev pub shape_of : Unsent → Shape
 shape_of block = record { desc = block.desc; size = block.size; asked = length block.bytes }
 
 -- how the block is shaped that the application has for this number: that of its unsent buffer,
--- where it has one
+-- if it has one
 abbrev pub buffer_due : List (List Buffer) → List BufferDesc → List ℕ → ℕ → ℕ → Option Shape
 buffer_due unsent descs sizes app number =
     option_map
@@ -73,7 +73,7 @@ pub record HoldsBuffers (unsent : List (List Buffer)) (descs : List BufferDesc) 
 abbrev pub with_lent : Holding LentBytes → List Unsent → Holding LentBytes
 with_lent bag lent = record bag { buffers = lent ++ bag.buffers }
 
--- for this number the bag has the block of the application's unsent buffer, where it has one
+-- for this number the bag has the block of the application's unsent buffer, if it has one
 pub record HoldsBuffer (unsent : List (List Buffer)) (descs : List BufferDesc) (sizes : List ℕ)
     (app : ℕ) (bag : Holding LentBytes) (number : ℕ) : Type 0 where
   pub known : 1 ≤ app

@@ -20,7 +20,7 @@ pub record IsGiven (given number : ℕ) : Type 0 where
   pub first : 1 ≤ number
   pub last : number ≤ given
 
--- where two items have one number they are of one send: they have one message, and one size was
+-- if two items have one number they are of one send: they have one message, and one size was
 -- asked for
 abbrev pub AreOfOneSend : Item → Item → Type 0
 AreOfOneSend item other =
@@ -28,7 +28,7 @@ AreOfOneSend item other =
 
 -- Blocks. --
 
--- 1 where the pipe received the send last
+-- 1 if the pipe received the send last
 abbrev pub last_by : ℕ → Pipe → ℕ
 last_by number pipe = names number pipe.last
 

@@ -83,11 +83,11 @@ account_in pool = record {
 abbrev pub returned : Account → ℕ → Account
 returned account size = option_map_or (after_return account) (class_of size account.sizes) account
 
--- a block for this size was sent, and so many pipes took it; where none did, it came back
+-- a block for this size was sent, and so many pipes took it; if none did, it came back
 abbrev pub after_send : Account → ℕ → ℕ → Account
 after_send account size reached = if nat_le 1 reached then account else returned account size
 
--- an item of a pipe was let go: where that was the last use of its send, the block came back
+-- an item of a pipe was let go: if that was the last use of its send, the block came back
 abbrev pub after_release : Account → Option Item → List Pipe → Account
 after_release account None pipes = account
 after_release account (Some item) pipes =

@@ -8,7 +8,7 @@ use Rattle.bus_words.specs.declared.miss.Miss.{Miss}
 use Rattle.bus_routes.specs.Rows.{RouteRow}
 use Rattle.bus_routes.specs.Tables.{Room, room_for}
 
--- A live pipe, and the loan that its last message is lent by; 0 where it has none.
+-- A live pipe, and the loan that its last message is lent by; 0 if it has none.
 pub record LastLoan : Type 0 where
   pub pipe : ℕ
   pub loan : ℕ

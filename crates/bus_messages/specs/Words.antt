@@ -29,7 +29,7 @@ loan_of loans number = option_map_or (λ one. one.loan) (find (λ one. one.pipe 
 abbrev pub desc_of : List BufferDesc → ℕ → ℕ
 desc_of descs number = option_map_or (λ one. one.desc) (find (λ one. one.number == number) descs) 0
 
--- the size of the smallest block for so many bytes; 0 where none is large enough
+-- the size of the smallest block for so many bytes; 0 if none is large enough
 abbrev pub size_for : List ℕ → ℕ → ℕ
 size_for sizes asked = option_map_or (slice_index sizes) (class_of asked sizes) 0
 
@@ -47,13 +47,13 @@ nexts_in store = map (next_of store.room.starts) store.routes
 abbrev pub reads_of : Store → Reads
 reads_of store = record { next = next_in (nexts_in store) }
 
--- the routes, with the id's count moved where the send moves it
+-- the routes, with the id's count moved if the send moves it
 abbrev pub counted_up : List RouteRow → ℕ → Bool → List RouteRow
 counted_up routes id inc = if inc then counted_on routes id else routes
 
 -- Sends. --
 
--- what the application sends: under the next number, with its id's next count where it asks for it
+-- what the application sends: under the next number, with its id's next count if it asks for it
 abbrev pub sending_of : Store → ℕ → List ℕ → Bool → Sending
 sending_of store sender bytes inc = record {
   sender = sender;

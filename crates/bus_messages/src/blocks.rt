@@ -15,7 +15,7 @@ use ccsds_msg::size_of;
 use lend_block::View;
 use step_count::{Ledger, Steps};
 
-/// Draws a block for the message, writes it once, with the count where there is one, and seals it.
+/// Draws a block for the message, writes it once, with the count if there is one, and seals it.
 /// Answers its descriptor, which has no use yet. At most 8 steps.
 #[inline(always)]
 pub(crate) fn put_message<L: Ledger>(
@@ -56,7 +56,7 @@ pub(crate) fn drawn_empty<'r, L: Ledger>(
     desk.take(size, number, steps).unwrap()
 }
 
-/// Seals an unsent block at the message that its bytes begin with, which gets the count where there
+/// Seals an unsent block at the message that its bytes begin with, which gets the count if there
 /// is one. Answers its descriptor, which has no use yet.
 pub(crate) fn seal_front<'r>(desk: &mut Desk<'r>, block: Block<'r>, count: Option<u16>) -> u32
     requires own { IsOf desk.old block }
@@ -78,7 +78,7 @@ pub(crate) fn seal_front<'r>(desk: &mut Desk<'r>, block: Block<'r>, count: Optio
     desc
 }
 
-/// Counts a use of the block for each pipe that took the message. Where none did, the block goes
+/// Counts a use of the block for each pipe that took the message. If none did, the block goes
 /// back. At most 8 steps.
 pub(crate) fn settle_message<L: Ledger>(
     desk: &mut Desk<'_>,
@@ -155,7 +155,7 @@ fn put_back<'r, L: Ledger>(
 }
 
 /// Puts a view of the item's message into the bag, for a pipe that has none there, and answers the
-/// item's number; None where there is no item.
+/// item's number; None if there is no item.
 pub(crate) fn show<'r>(
     desk: &mut Desk<'r>,
     held: &mut Held<'r>,

@@ -214,7 +214,7 @@ impl<'r> BusStore<'r> {
     }
 
     // Does the same with the buffer that the application was given last, and answers its number;
-    // None where it has none.
+    // None if it has none.
     fn release_newest<L: Ledger>(
         &mut self,
         app: AppNo,

@@ -61,7 +61,7 @@ impl<'r> BusStore<'r> {
         self.desk.pool().bytes_in_use()
     }
 
-    /// The last messages of two pipes have one loan where they are of one send: there is one block
+    /// The last messages of two pipes have one loan if they are of one send: there is one block
     /// for it, which both lend. Does nothing.
     pub fn recall_loans(&self)
         ensures { (pipe other : ℕ) (item its : Item) → last_on self.now.pipes pipe ≡ Some item →

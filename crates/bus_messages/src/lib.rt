@@ -19,7 +19,7 @@
 //! ```
 //!
 //! ```text
-//! /// How many bytes the next message of the application's pipe has; 0 where none waits.
+//! /// How many bytes the next message of the application's pipe has; 0 if none waits.
 //! fn next_length<'r, L: Ledger>(
 //!     store: &mut BusStore<'r>,
 //!     app: AppNo,

@@ -18,7 +18,7 @@ use step_count::{Ledger, Steps};
 impl<'r> BusStore<'r> {
     /// Lets the last message of the application's pipe go, and takes the one that waits longest, if
     /// any, in its place: answers its number, and puts a view of it into the application's bag. The
-    /// view of the message that is let go is taken out, and where that was its last use, its block
+    /// view of the message that is let go is taken out, and if that was its last use, its block
     /// goes back to the pool. At most 8 steps.
     pub fn receive<L: Ledger>(
         &mut self,
@@ -59,7 +59,7 @@ impl<'r> BusStore<'r> {
         number
     }
 
-    /// Does the same where the pipe is the application's; None if and only if it has no such pipe,
+    /// Does the same if the pipe is the application's; None if and only if it has no such pipe,
     /// and then nothing changes. The pipe is looked up once. At most 8 steps.
     pub fn receive_if_owned<L: Ledger>(
         &mut self,

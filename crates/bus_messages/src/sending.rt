@@ -35,7 +35,7 @@ pub(crate) fn place_of_route(tables: &BusTables, id: u16) -> u32
     tables.route_of(id).unwrap()
 }
 
-/// The next count of the route's id, which then counts as given, where the send asks for it.
+/// The next count of the route's id, which then counts as given, if the send asks for it.
 pub(crate) fn next_count(tables: &mut BusTables, way: RouteNo, inc: bool) -> Option<u16>
     requires some { has_way tables.old.routes way.id ≡ true }
     requires way { way_of tables.old.routes way.id ≡ Some way.place }
@@ -78,7 +78,7 @@ impl<'r> BusStore<'r> {
 
     /// Sends a message, whose id has a route, under the next send number: each pipe that takes it
     /// gets it queued. Its bytes are written once, into one block. With `inc` it gets the id's next
-    /// sequence count (CCSDS 133.0-B, 4.1.3.4.3). Where no pipe takes it, its block goes back at
+    /// sequence count (CCSDS 133.0-B, 4.1.3.4.3). If no pipe takes it, its block goes back at
     /// once. A message that a full pipe drops for it is let go after that: its block goes back
     /// if no other pipe has a use for it. No bag changes. At most 4 steps for each subscription
     /// of the id, 8 more for each whose pipe drops a message, and 32 more.

@@ -61,7 +61,7 @@ impl<'r> BusStore<'r> {
     /// buffer. The blocks are cut from the region.
     ///
     /// # Errors
-    /// Where memory runs out.
+    /// If memory runs out.
     pub fn new(
         alloc: Global,
         cfg: &Config,

@@ -63,7 +63,7 @@ impl<'r> BusStore<'r> {
     }
 
     /// Subscribes a live pipe to an id, 1 to 0x1FFF, of which it has no subscription yet: up to
-    /// `limit` messages of it may wait at once. The id gets a route where it has none. At most 8
+    /// `limit` messages of it may wait at once. The id gets a route if it has none. At most 8
     /// steps.
     pub fn subscribe<L: Ledger>(
         &mut self,
@@ -101,7 +101,7 @@ impl<'r> BusStore<'r> {
         self.tables.subscribe(id, pipe, limit, scope, steps);
     }
 
-    /// Ends the pipe's subscription to the id, and answers whether it had one; no effect where it
+    /// Ends the pipe's subscription to the id, and answers whether it had one; no effect if it
     /// had none. What waits stays. At most 3 steps for each subscription of the id, and 10 more.
     pub fn unsubscribe<L: Ledger>(&mut self, id: u16, pipe: u32, steps: &mut Steps<L>) -> bool
         ensures there { result ≡ is_subscribed self.old.subscriptions id pipe }

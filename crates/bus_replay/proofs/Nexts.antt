@@ -93,7 +93,7 @@ pass_stops app s lines line p there seen =
     ap (λ l. passed app s l p) (line_here lines p.place line there)
     ∙ ap (λ (b : Bool). cond {A = Place} b p (passed app s (drop (p.place + 1) lines) (past app s line p))) seen
 
--- where it is before one, that is the first that it goes past
+-- if it is before one, that is the first that it goes past
 pub unseen_first : (app : ℕ) (s : State) (lines : List Line) (line : Line) (p : Place) → is_before_unseen lines p ≡ true → slice_get lines p.place ≡ Some line →
     passed app s (drop (p.place + 1) lines) (past app s line p) ≡ passed app s (drop p.place lines) p
 unseen_first app s lines line p before there =

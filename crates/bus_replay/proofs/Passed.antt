@@ -44,7 +44,7 @@ passed_less script from r now mid to at steps =
     let step = steps at.history at.replayed in
     less_left mid to _ step.1.text
 
--- where nothing is missing
+-- if nothing is missing
 pub passed_whole : (script : ScriptText) (from : Compared) (r now : Replay) (mid to : Compared) → Passed script from r mid →
     ((history : List Entry) → IsReplayed history r → Steps history r now mid to Whole) → AreWholeLines script from to now
 passed_whole script from r now mid to at steps =

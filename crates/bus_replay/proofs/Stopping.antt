@@ -1,4 +1,4 @@
--- Where no entry of the bus comes next.
+-- If no entry of the bus comes next.
 use Rattle.std.proofs.Common.{◌≡◌, ◌≢◌, ℕ, zero, suc, ◌+◌, ◌<◌, ◌≤◌, ◌==◌, ◌&&◌, arith, Bool, true, false, true≢false, eqb-true, List, [], ◌∷◌, ◌++◌, length, Some, refl, ap, sym, ◌∙◌, subst}
 use Rattle.std.proofs.lemmas.Bool.Decides.{nat_tests}
 use Rattle.bus_words.specs.declared.history.Call.{Call}
@@ -80,7 +80,7 @@ goes standing call may is = true≢false (sym may ∙ ap (λ st. may_call st cal
     never : (call : Call) → may_call Ended call ≡ false
     never call = refl
 
--- so it is where each has, and isn't where one hasn't
+-- so it is if each has, and isn't if one hasn't
 pub each_ended : (s : State) (n : ℕ) → ((app : ℕ) → 1 ≤ app → app ≤ n → has_ended (standing_of s app) ≡ true) → have_all_ended s n ≡ true
 each_ended s zero all = refl
 each_ended s (suc n) all =
@@ -146,7 +146,7 @@ module _ (history : List Entry) (r : Replay) (at : IsReplayed history r) where
       (ap (λ (s : State). may_call (standing_of s e.app) e.call) (bus_is history r at)
       ∙ (legal_last r.script.limits (length r.script.apps) [] (opening r.script.limits (length r.script.apps)) history e begun.legal).0)
 
-  -- where each whose number the text begins with has ended, it begins with the line of no next entry
+  -- if each whose number the text begins with has ended, it begins with the line of no next entry
   pub nobodys : (text : List ℕ) →
       ((app : ℕ) → 1 ≤ app → app ≤ length r.script.apps → Begins text (entry_head (r.entries + 1) app) → standing_of r.played.whole.bus app ≡ Ended) →
       (e : Entry) → IsBegun r.script (history ++ e ∷ []) → ¬ Begins text (entry_head (length history + 1) e.app)
@@ -154,7 +154,7 @@ module _ (history : List Entry) (r : Replay) (at : IsReplayed history r) where
       let range = app_range r.script history e [] begun in
       next_going e begun (ended e.app range.0 range.1 (subst (λ n. Begins text (entry_head (n + 1) e.app)) (sym at.entries) begins))
 
-  -- nor where the one whose number it begins with can't make its call, or makes no entry by it
+  -- nor if the one whose number it begins with can't make its call, or makes no entry by it
   pub can_not : (text : List ℕ) (app : ℕ) (call : Call) → ((other : ℕ) → other ≤ length r.script.apps → Begins text (entry_head (r.entries + 1) other) → other ≡ app) →
       call_at (standing_of r.played.whole.bus app) (lines_of r.script app) (place_after r.script app history) ≡ Some call →
       ((makes_entry call ((act r.played.limits r.played.whole app call).0) ≡ true) → (brings r.played.whole.bus.unsent app call ≡ true) → ⊥) →

@@ -19,7 +19,7 @@ pub record Kept : Type 0 where
   pub rows : List Row
   pub receipts : List Made
 
--- where it is
+-- if it is
 abbrev pub place_of : Kept → Place
 place_of k = record {
   place = k.place;

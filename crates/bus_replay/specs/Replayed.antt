@@ -22,7 +22,7 @@ pub record AreWholeLines (script : ScriptText) (from to : Compared) (r : Replay)
   pub whole : IsWhole script history
   pub text : GoesPast from to (entries_text history)
 
--- They are the lines of a history, and the one behind them, where the text was then, is that of no
+-- They are the lines of a history, and the one behind them, if the text was then, is that of no
 -- entry that may come next.
 pub record AreWrongLines (script : ScriptText) (from : Compared) (line : ℕ) : Type 0 where
   pub history : List Entry

@@ -34,7 +34,7 @@ pub record IsReplayed (history : List Entry) (r : Replay) : Type 0 where
   pub places : (app : ℕ) → 1 ≤ app → app ≤ length r.script.apps →
       option_map place_of (slice_get r.places (app - 1)) ≡ Some (place_after r.script app history)
 
--- where an application is before its first entry
+-- if an application is before its first entry
 abbrev pub first_place : State → ScriptText → ℕ → Place
 first_place s script app = passed app s (lines_of script app) place_before
 

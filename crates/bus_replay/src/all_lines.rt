@@ -19,7 +19,7 @@ pub enum BusReplayed<'s> {
 /// Judges the lines on the bus with which a text begins, and goes past them.
 ///
 /// # Errors
-/// `AllocError` where memory runs out, or where a number of 32 bits is spent.
+/// `AllocError` if memory runs out, or if a number of 32 bits is spent.
 pub fn replay_bus<'s>(
     alloc: Global,
     script: &'s Script,

@@ -33,7 +33,7 @@ pub(crate) fn makes_entry(call: &BusCall<'_>, answer: &BusAnswer) -> bool
 /// Whether the machine of lists plays the call; it plays each call that a script makes.
 ///
 /// # Errors
-/// `AllocError` where a message has 2^32 bytes or more, or a mode is none.
+/// `AllocError` if a message has 2^32 bytes or more, or a mode is none.
 pub(crate) fn check_playable(call: &BusCall<'_>) -> Result<(), AllocError>
     ensures { OnOk result (IsTrue (is_playable (call_of call.now))) }
 {

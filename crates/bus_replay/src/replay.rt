@@ -75,7 +75,7 @@ impl<'s> BusReplay<'s> {
     /// Before the first line.
     ///
     /// # Errors
-    /// `AllocError` where memory runs out.
+    /// `AllocError` if memory runs out.
     pub fn new(alloc: Global, script: &'s Script) -> Result<BusReplay<'s>, AllocError>
         ensures script { IfOk result (λ replay. replay.script ≡ script.now) }
         ensures first { IfOk result (λ replay. IsReplayed [] replay) }
@@ -95,7 +95,7 @@ impl<'s> BusReplay<'s> {
     /// come next.
     ///
     /// # Errors
-    /// `AllocError` where memory runs out, or where a number of 32 bits is spent. The contract
+    /// `AllocError` if memory runs out, or if a number of 32 bits is spent. The contract
     /// doesn't describe the replay and the text then.
     pub fn step(
         &mut self,

@@ -58,7 +58,7 @@ module _ {X : Type 0} where
           ∙ ap (λ b. b || list_any p (filter q xs)) e
       choose rest false e found = keeps (q y) (rest found passes)
 
-  -- something passes exactly where something is found
+  -- something passes if and only if something is found
   pub any_found : (p : X → Bool) (xs : List X) → is_some (find p xs) ≡ list_any p xs
   any_found p [] = refl
   any_found p (x ∷ xs) = choose (p x) (any_found p xs)
@@ -67,7 +67,7 @@ module _ {X : Type 0} where
       choose true ih = refl
       choose false ih = ih
 
-  -- where nothing passes, each fails
+  -- if nothing passes, each fails
   pub none_passes : (p : X → Bool) (xs : List X) → list_any p xs ≡ false → All (λ x. p x ≡ false) xs
   none_passes p [] none = All-nil (λ x. p x ≡ false)
   none_passes p (x ∷ xs) none = choose (none_passes p xs) (p x) refl none
@@ -144,11 +144,11 @@ module _ {X : Type 0} where
   not_none None there is = cc (there)
   not_none (Some x) there is = cc (is)
 
-  -- where nothing is found, each fails
+  -- if nothing is found, each fails
   pub not_found : (p : X → Bool) (xs : List X) → find p xs ≡ None → All (λ x. p x ≡ false) xs
   not_found p xs none = none_passes p xs (sym (any_found p xs) ∙ ap is_some none)
 
-  -- where none is counted, each fails
+  -- if none is counted, each fails
   pub none_counted : (p : X → Bool) (xs : List X) → count_by p xs ≡ 0 → All (λ x. p x ≡ false) xs
   none_counted p [] none = All-nil (λ x. p x ≡ false)
   none_counted p (x ∷ xs) none = choose (none_counted p xs) (p x) refl (sym (sum_by-cons (λ y. cond {A = ℕ} (p y) 1 0) x xs) ∙ none)
@@ -157,7 +157,7 @@ module _ {X : Type 0} where
       choose rest true e none = absurd (omega (arith, none))
       choose rest false e none = All-cons (λ y. p y ≡ false) x xs e (rest (omega (arith, none)))
 
-  -- what is found is the only one that passes, where at most one does
+  -- what is found is the only one that passes, if at most one does
   pub found_only : (p : X → Bool) (xs : List X) (x : X) → find p xs ≡ Some x → count_by p xs ≤ 1 → All (λ y. p y ≡ true → y ≡ x) xs
   found_only p [] x found few = absurd cc
   found_only p (y ∷ xs) x found few = choose (found_only p xs x) (p y) refl found (omega (arith, few, sum_by-cons (λ z. cond {A = ℕ} (p z) 1 0) y xs))
@@ -174,7 +174,7 @@ module _ {X : Type 0} where
           (All-weaker (λ z. p z ≡ false) Only (λ z fails passes. absurd (cc (sym fails ∙ passes))) xs (none_counted p xs (omega (arith, one, few))))
       choose rest false e found few = All-cons Only y xs (λ passes. absurd (cc (sym e ∙ passes))) (rest found (omega (arith, few)))
 
-  -- a search in what a filter leaves, where the filter keeps all that pass
+  -- a search in what a filter leaves, if the filter keeps all that pass
   pub find_within : (p q : X → Bool) → ((x : X) → p x ≡ true → q x ≡ true) → (xs : List X) → find p (filter q xs) ≡ find p xs
   find_within p q keeps [] = refl
   find_within p q keeps (x ∷ xs) = choose (p x) (q x) refl refl (find_within p q keeps xs)
@@ -185,7 +185,7 @@ module _ {X : Type 0} where
       choose false true e f ih = ap (λ c. cond {A = Option X} c (Some x) (find p (filter q xs))) e ∙ ih
       choose false false e f ih = ih
 
-  -- where each fails, no one passes
+  -- if each fails, no one passes
   pub none_any : (p : X → Bool) (xs : List X) → All (λ x. p x ≡ false) xs → list_any p xs ≡ false
   none_any p [] all = refl
   none_any p (x ∷ xs) all =

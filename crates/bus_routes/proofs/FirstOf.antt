@@ -83,7 +83,7 @@ module _ (subs : Subscribed) (routing : Routing) (id pipe way : ℕ)
         let both : row_of due.0 ≡ row = cc (same) in
         ap (λ r. r.pipe) both
 
-    -- where it is the pipe's, it is the first
+    -- if it is the pipe's, it is the first
     pub found_here : (row : SubRow) → option_map row_of (live_at subs sub) ≡ Some row → row.pipe ≡ pipe → Some sub ≡ first_of subs id pipe
     found_here row at same =
         ap Some (sym due.2)
@@ -95,7 +95,7 @@ module _ (subs : Subscribed) (routing : Routing) (id pipe way : ℕ)
         holds : (a b : ℕ) → a ≡ b → eqb a b ≡ true
         holds a b e = grind (arith, nat_tests)
 
-    -- and where not, it is among the rest
+    -- and if not, it is among the rest
     pub passed_more : (row : SubRow) → option_map row_of (live_at subs sub) ≡ Some row → (row.pipe ≡ pipe → ⊥) → (at : Option Dest) → at ≡ first_dest (drop (k + 1) (dests_at routing way)) →
         IfSome at (λ dest. dest.0 < routing.msgids * routing.dests) → Passed subs routing id pipe way (k + 1) at
     passed_more row at other next next_is low = record {

@@ -48,7 +48,7 @@ none_of routes (s ∷ live) id none ways =
         absurd (cc (no))
     by_test false test rest = rest
 
--- a fresh route stands last, and is found there where its id has no other
+-- a fresh route stands last, and is found there if its id has no other
 from_fresh : (number : ℕ) (routes : List Route) (id : ℕ) → route_from number routes id ≡ None → route_from number (routes ++ fresh_route id ∷ []) id ≡ Some (number + length routes)
 from_fresh number [] id none = ap (λ b. cond {A = Option ℕ} b (Some number) None) (eq-eqb id id refl) ∙ ap Some (add_none number)
   where
@@ -217,7 +217,7 @@ sum_below f most (r ∷ routes) (suc place) each within less =
     let rest = sum_below f most routes place (λ i inside. each (suc i) (omega (arith, inside))) (omega (arith, within)) less in
     omega (arith, one, rest, sum_by-cons f r routes, suc-mul (length routes) most)
 
--- there is room for one more where its route has room
+-- there is room for one more if its route has room
 pub room_left : (subscribed : Subscribed) (r : Routing) (id route : ℕ) → AreRouted subscribed r → route_of r.routes id ≡ Some route → length r.routes ≤ r.msgids → ((place : ℕ) → length (dests_at r place) ≤ r.dests) →
     length (dests_at r route) < r.dests → length subscribed.live < r.msgids * r.dests
 room_left subscribed r id route routed way fit few less =
@@ -376,7 +376,7 @@ none_waits subscribed pipe number (item ∷ queue) above all =
     other : (a b : ℕ) → a < b → eqb a b ≡ false
     other a b less = grind (arith, nat_tests)
 
--- what waits stays counted where a subscription is made of which nothing waits
+-- what waits stays counted if a subscription is made of which nothing waits
 pub queued_more : (rows : List (PipeOf Item)) (subscribed : Subscribed) (s : LiveSubscription) → AreQueued rows subscribed → is_some (pipe_at rows s.pipe) ≡ true →
     s.number ≡ subscribed.made + 1 → s.waiting ≡ 0 → AreQueued rows (record subscribed { made = s.number; live = subscribed.live ++ s ∷ [] })
 queued_more rows subscribed s queued live number nothing =

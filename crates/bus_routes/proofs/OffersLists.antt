@@ -34,7 +34,7 @@ found_is {X} P p (y ∷ ys) x all is = by_test (p y) is (λ rest. found_is P p y
         subst P same (All-head P y ys all)
     by_test false here ih = ih here
 
--- what there is, where there is something
+-- what there is, if there is something
 pub some_there : {X : Type 0} (o : Option X) → is_some o ≡ true → (x : X) × (o ≡ Some x)
 some_there None is = absurd (cc (is))
 some_there (Some x) is = (x, refl)
@@ -56,7 +56,7 @@ find_agree p q same [] = refl
 find_agree {X} p q same (x ∷ xs) =
     ap (λ b. cond {A = Option X} b (Some x) (find p xs)) (same x) ∙ ap (λ o. cond {A = Option X} (q x) (Some x) o) (find_agree p q same xs)
 
--- Where numbers rise. --
+-- If numbers rise. --
 
 -- the numbers rise, all of them above this one
 abbrev pub Rises : {X : Type 0} → (X → ℕ) → ℕ → List X → Type 0

@@ -20,7 +20,7 @@ rows_rise below (row ∷ rows) rising = (rising.0, rows_rise row.number rows ris
 pub only_row : (rows : List (PipeOf Item)) (number : ℕ) (row : PipeOf Item) → IsRising 0 rows → pipe_at rows number ≡ Some row → All (λ other. other.number ≡ row.number → other ≡ row) rows
 only_row rows number row rising is = only_one (λ r. r.number) (λ r. eqb r.number number) 0 rows row (rows_rise 0 rows rising) is
 
--- a row, changed where it has the number
+-- a row, changed if it has the number
 abbrev pub changed : (PipeOf Item → PipeOf Item) → ℕ → PipeOf Item → PipeOf Item
 changed f number row = cond (eqb row.number number) (f row) row
 

@@ -17,7 +17,7 @@ pub record Keeps (change : PipeOf Item → PipeOf Item) : Type 0 where
   pub number : (row : PipeOf Item) → (change row).number ≡ row.number
   pub queue : (row : PipeOf Item) → (change row).queue ≡ row.queue
 
--- a row, changed where it has the number
+-- a row, changed if it has the number
 abbrev pub changed : (PipeOf Item → PipeOf Item) → ℕ → PipeOf Item → PipeOf Item
 changed change number row = cond {A = PipeOf Item} (eqb row.number number) (change row) row
 
@@ -87,7 +87,7 @@ found_more {U} f p (row ∷ rows) more u is = by_test (p row) (found_more f p ro
     by_test true ih here = here
     by_test false ih here = ih here
 
--- what waits stays counted where an empty pipe is added
+-- what waits stays counted if an empty pipe is added
 pub queued_more : (rows : List (PipeOf Item)) (subscribed : Subscribed) (number : ℕ) (name : List ℕ) (owner depth : ℕ) → AreQueued rows subscribed →
     AreQueued (rows ++ new_pipe number name owner depth ∷ []) subscribed
 queued_more rows subscribed number name owner depth queued =

@@ -11,7 +11,7 @@ use Rattle.bus_routes.specs.Inside.{still, frame, IsPlaced, ArePlaced}
 use Rattle.bus_routes.proofs.EndingsLists.{find_within}
 use Rattle.bus_routes.proofs.OffersSubs.{all_still}
 
--- where counts alone change
+-- if counts alone change
 pub placed_still : (places : List (ℕ × ℕ)) (before subs : Subscribed) → still subs ≡ still before → ArePlaced places before → ArePlaced places subs
 placed_still places before subs same placed = all_still (IsPlaced places) before subs (λ s is. is) (λ s is. is) same placed
 
@@ -20,7 +20,7 @@ pub placed_after : (old pipes : Pipes) (before subs : Subscribed) → frame pipe
 placed_after old pipes before subs framed same placed =
     subst (λ (p : Pipes). ArePlaced p.places subs) (sym framed) (placed_still old.places before subs same placed)
 
--- where a pipe comes
+-- if a pipe comes
 pub placed_more : (places : List (ℕ × ℕ)) (pair : ℕ × ℕ) (subs : Subscribed) → ArePlaced places subs → ArePlaced (places ++ pair ∷ []) subs
 placed_more places pair subs placed =
     All-weaker (IsPlaced places) (IsPlaced (places ++ pair ∷ [])) (λ s is. further places s is) subs.live placed
@@ -35,11 +35,11 @@ placed_more places pair subs placed =
         by_test true here ih = here
         by_test false here ih = ih here
 
--- where a subscription leaves
+-- if a subscription leaves
 pub placed_left : (places : List (ℕ × ℕ)) (subs : Subscribed) (stays : LiveSubscription → Bool) → ArePlaced places subs → ArePlaced places (record subs { live = filter stays subs.live })
 placed_left places subs stays placed = All-filter stays (IsPlaced places) subs.live placed
 
--- where a pipe leaves with its subscriptions
+-- if a pipe leaves with its subscriptions
 pub placed_removed : (places : List (ℕ × ℕ)) (subs : Subscribed) (number : ℕ) → ArePlaced places subs →
     ArePlaced (without_place number places) (record subs { live = filter (λ s. not (eqb s.pipe number)) subs.live })
 placed_removed places subs number placed = λ k d within.

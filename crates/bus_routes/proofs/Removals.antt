@@ -15,7 +15,7 @@ use Rattle.bus_routes.proofs.Ties.{queued_left}
 pub other_number : (m p n : ℕ) → not (eqb p n) ≡ true → eqb m p ≡ true → not (eqb m n) ≡ true
 other_number m p n apart same = subst (λ k. not (eqb k n) ≡ true) (sym (eqb-true m p same)) apart
 
--- what waits stays counted where a pipe leaves with its subscriptions
+-- what waits stays counted if a pipe leaves with its subscriptions
 pub queued_removed : (rows : List (PipeOf Item)) (subscribed : subs.Subscribed) (number : ℕ) → AreQueued rows subscribed →
     AreQueued (without_pipe number rows) (record subscribed { live = filter (λ s. not (eqb s.pipe number)) subscribed.live })
 queued_removed rows subscribed number queued = record {

@@ -13,7 +13,7 @@ use Rattle.bus_routes.proofs.Readers.{way_there}
 
 -- Where it stands. --
 
--- the id's route stands in this place, where routes are numbered on from a number
+-- the id's route stands in this place, if routes are numbered on from a number
 pub record StandsAt (number : ℕ) (routes : List Route) (id route : ℕ) : Type 0 where
   pub place : ℕ
   pub is : route ≡ number + place
@@ -85,13 +85,13 @@ some_way r id has = way_there r.routes id ∙ has
 
 -- What a change leaves. --
 
--- the routes of ids stand where they stood, where the id in one place stays
+-- the routes of ids stand where they stood, if the id in one place stays
 pub route_from-set : (number : ℕ) (routes : List Route) (place id : ℕ) (x d : Route) → x.id ≡ (get_or routes place d).id → route_from number (set routes place x) id ≡ route_from number routes id
 route_from-set number [] place id x d same = refl
 route_from-set number (r ∷ routes) zero id x d same = ap (λ n. cond {A = Option ℕ} (eqb n id) (Some number) (route_from (number + 1) routes id)) same
 route_from-set number (r ∷ routes) (suc place) id x d same = ap (cond {A = Option ℕ} (eqb r.id id) (Some number)) (route_from-set (number + 1) routes place id x d same)
 
--- and no destination changes where those in one place stay
+-- and no destination changes if those in one place stay
 pub dests-set : (routes : List Route) (place other : ℕ) (x d : Route) → x.dests ≡ (get_or routes place d).dests → (get_or (set routes place x) other d).dests ≡ (get_or routes other d).dests
 dests-set [] place other x d same = refl
 dests-set (r ∷ routes) zero zero x d same = same
@@ -99,7 +99,7 @@ dests-set (r ∷ routes) zero (suc other) x d same = refl
 dests-set (r ∷ routes) (suc place) zero x d same = refl
 dests-set (r ∷ routes) (suc place) (suc other) x d same = dests-set routes place other x d same
 
--- the destinations of ids stay their subscriptions, where a route's count changes
+-- the destinations of ids stay their subscriptions, if a route's count changes
 pub routed_counted : (subscribed : Subscribed) (r : Routing) (route : ℕ) → AreRouted subscribed r → AreRouted subscribed (with_route r route (routing.counted_on (route_at r route)))
 routed_counted subscribed r route routed =
     let next = with_route r route (routing.counted_on (route_at r route)) in

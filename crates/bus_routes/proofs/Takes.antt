@@ -25,7 +25,7 @@ use Rattle.bus_routes.proofs.OffersSubs.{live_still, still-with_change, queued_s
 
 -- What contracts see. --
 
--- the tables, where pipes changed and counts alone did of the subscriptions
+-- the tables, if pipes changed and counts alone did of the subscriptions
 pub tables_after : (old pipes : Pipes) (before subs : Subscribed) (routing : Routing) (rows : List Row) → frame pipes ≡ frame old → still subs ≡ still before → map row_in pipes.live ≡ rows →
     tables_in pipes subs routing ≡ record (tables_in old before routing) { pipes = rows }
 tables_after old pipes before subs routing rows framed same seen =
@@ -111,7 +111,7 @@ module _ (f : PipeOf Item → PipeOf Item) (front : TakesFront f) (rows : List (
           (subst (λ q. All (IsQueued after r.number) q) (sym (front.queue r)) (All-drop (IsQueued after r.number) 1 r.queue all))
       by_test r all false = all
 
-  -- where none waits
+  -- if none waits
   pub none_taken : oldest_on rows number ≡ None → AreQueued (with_pipe f number rows) subs
   none_taken none = record {
     counted =
@@ -122,7 +122,7 @@ module _ (f : PipeOf Item → PipeOf Item) (front : TakesFront f) (rows : List (
     items = items subs refl;
   }
 
-  -- where one waits
+  -- if one waits
   module _ (item : Item) (waits : oldest_on rows number ≡ Some item) where
     row_there : (row : PipeOf Item) × (pipe_at rows number ≡ Some row) × (oldest row.queue ≡ Some item)
     row_there = by_row (pipe_at rows number) refl waits

@@ -28,7 +28,7 @@ is_some_map : {X Y : Type 0} (f : X → Y) (o : Option X) → is_some (option_ma
 is_some_map f None = refl
 is_some_map f (Some x) = refl
 
--- a pipe is subscribed to an id exactly where a live subscription that ties them is found
+-- a pipe is subscribed to an id if and only if a live subscription that ties them is found
 pub subscribed_seen : (subs : Subscribed) (id pipe : ℕ) → is_some (first_of subs id pipe) ≡ is_subscribed (map sub_in subs.live) id pipe
 subscribed_seen subs id pipe =
     is_some_map number_of (find (ties id pipe) subs.live)
@@ -126,7 +126,7 @@ without_tied subs id pipe sub s rising found live few =
     same t number tie false true e f =
         absurd (cc (sym e ∙ eq-eqb t.number sub.number (ap (λ u. u.number) (tie f) ∙ (goes sub s (found_passes (goes_by sub) subs.live s live)).1)))
 
--- where none ties, all stay
+-- if none ties, all stay
 pub none_tied : (subs : Subscribed) (id pipe : ℕ) → first_of subs id pipe ≡ None → map sub_in subs.live ≡ filter (λ t. not (eqb t.id id && eqb t.pipe pipe)) (map sub_in subs.live)
 none_tied subs id pipe none =
     ap (map sub_in)
@@ -141,7 +141,7 @@ none_tied subs id pipe none =
 
 -- Messages that wait. --
 
--- what waits stays counted where subscriptions leave
+-- what waits stays counted if subscriptions leave
 pub queued_left : (rows : List (PipeOf Item)) (subs : Subscribed) (stays : LiveSubscription → Bool) → AreQueued rows subs → AreQueued rows (record subs { live = filter stays subs.live })
 queued_left rows subs stays queued = record {
   counted = All-filter stays (IsCounted rows) subs.live queued.counted;

@@ -145,7 +145,7 @@ dropped_few message (sub ∷ subs) rows =
     let next : List Row = with_pipe (offered_row message sub) sub.pipe rows in
     omega (arith, length-append (row_drops message sub rows) (dropped_rows message subs next), one_dropped message sub rows, dropped_few message subs next)
 
--- Where an application takes the next message of a pipe, the one received last loses a use, and no other does.
+-- If an application takes the next message of a pipe, the one received last loses a use, and no other does.
 pub taken_uses : (n p below : ℕ) (rows : List Row) → IsRising below rows → uses_of n (with_pipe after_receive p rows) + option_map_or (λ row. item_use n row.last) (find (is p) rows) 0 ≡ uses_of n rows
 taken_uses n p below rows r = at (find (is p) rows) (with_row_sum (uses_in n) after_receive p below rows r)
   where
@@ -153,7 +153,7 @@ taken_uses n p below rows r = at (find (is p) rows) (with_row_sum (uses_in n) af
     at None e = omega (arith, e)
     at (Some row) e = omega (arith, e, moved n row.queue)
 
--- where the item that waits longest is taken out of a pipe, its send loses a use, and no other does
+-- if the item that waits longest is taken out of a pipe, its send loses a use, and no other does
 pub front_uses : (n p below : ℕ) (rows : List Row) → IsRising below rows → uses_of n (with_pipe without_front p rows) + item_use n (oldest_on rows p) ≡ uses_of n rows
 front_uses n p below rows r = at (find (is p) rows) (with_row_sum (uses_in n) without_front p below rows r)
   where
@@ -161,7 +161,7 @@ front_uses n p below rows r = at (find (is p) rows) (with_row_sum (uses_in n) wi
     at None e = omega (arith, e)
     at (Some row) e = omega (arith, e, moved n row.queue)
 
--- and so where the item received last is taken out
+-- and so if the item received last is taken out
 pub last_uses : (n p below : ℕ) (rows : List Row) → IsRising below rows → uses_of n (with_pipe without_last p rows) + item_use n (last_on rows p) ≡ uses_of n rows
 last_uses n p below rows r = at (find (is p) rows) (with_row_sum (uses_in n) without_last p below rows r)
   where

@@ -55,11 +55,11 @@ abbrev pub IsCounted : List (PipeOf Item) → subs.LiveSubscription → Type 0
 IsCounted rows s =
     option_map (λ row. waiting_at row s.number) (pipe_at rows s.pipe) ≡ Some s.waiting
 
--- a subscription is the item's, where it has the item's number: in that slot, and of this pipe
+-- a subscription is the item's, if it has the item's number: in that slot, and of this pipe
 abbrev pub IsOf : ℕ → Item → subs.LiveSubscription → Type 0
 IsOf pipe item s = s.number ≡ item.sub.number → (s.slot ≡ item.sub.slot) × (s.pipe ≡ pipe)
 
--- an item on a pipe is of a subscription that was made, and where that one lives it is the pipe's
+-- an item on a pipe is of a subscription that was made, and if that one lives it is the pipe's
 pub record IsQueued (subscribed : subs.Subscribed) (pipe : ℕ) (item : Item) : Type 0 where
   pub made : item.sub.number ≤ subscribed.made
   pub own : All (IsOf pipe item) subscribed.live
@@ -73,7 +73,7 @@ pub record AreQueued (rows : List (PipeOf Item)) (subscribed : subs.Subscribed) 
 abbrev pub IsPlaced : List (ℕ × ℕ) → subs.LiveSubscription → Type 0
 IsPlaced places s = place_of places s.pipe ≡ Some s.place
 
--- each pipe lies where its subscriptions say
+-- each pipe lies if its subscriptions say
 abbrev pub ArePlaced : List (ℕ × ℕ) → subs.Subscribed → Type 0
 ArePlaced places subscribed = All (IsPlaced places) subscribed.live
 
@@ -117,7 +117,7 @@ uncounted s = record s { waiting = 0 }
 abbrev pub still : subs.Subscribed → subs.Subscribed
 still subscribed = record subscribed { live = map uncounted subscribed.live }
 
--- the subscriptions once one message fewer of the item's waits; as they are, where there is no item
+-- the subscriptions once one message fewer of the item's waits; as they are, if there is no item
 abbrev pub fewer_by : Option Item → subs.Subscribed → subs.Subscribed
 fewer_by item subscribed =
     option_map_or (λ i. subs.with_change subscribed i.sub subs.one_fewer) item subscribed

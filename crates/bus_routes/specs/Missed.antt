@@ -14,7 +14,7 @@ pub record Missed : Type 0 where
   pub room : ℕ
 
 module _ {item : Type 0} where
-  -- the item that leaves the subscription's pipe for the message that it is offered, where one does
+  -- the item that leaves the subscription's pipe for the message that it is offered, if one does
   abbrev pub drops_by : Offer item → Subscription → List (PipeOf item) → List item
   drops_by offer sub pipes =
       option_to_list

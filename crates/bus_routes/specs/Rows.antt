@@ -43,7 +43,7 @@ verdict_on row sub sender = words.verdict (λ item. item.subscription) row sub s
 abbrev pub offered_row : Message → Subscription → Row → Row
 offered_row message sub row = words.offered (offer_of message) sub row
 
--- 1 where the subscription's pipe takes the message
+-- 1 if the subscription's pipe takes the message
 abbrev pub row_takes : Message → Subscription → List Row → ℕ
 row_takes message sub rows = words.counted_by is_queued (offer_of message) sub rows
 
@@ -61,7 +61,7 @@ drops_rows message subs rows = words.drops (offer_of message) subs rows
 
 -- Misses. --
 
--- the subscription's pipe and why a message is missed there for this one, where one is
+-- the subscription's pipe and why a message is missed there for this one, if one is
 abbrev pub row_misses : Message → Subscription → List Row → List Miss
 row_misses message sub rows = words.misses_by (offer_of message) sub rows
 
@@ -69,7 +69,7 @@ row_misses message sub rows = words.misses_by (offer_of message) sub rows
 abbrev pub missed_rows : Message → List Subscription → List Row → List Miss
 missed_rows message subs rows = words.misses_of (offer_of message) subs rows
 
--- the item that leaves the subscription's pipe for the message, where one does
+-- the item that leaves the subscription's pipe for the message, if one does
 abbrev pub row_drops : Message → Subscription → List Row → List ItemRow
 row_drops message sub rows = drops_by (offer_of message) sub rows
 
@@ -93,7 +93,7 @@ ids_of routes = map (λ route. route.id) routes
 abbrev pub has_way : List RouteRow → ℕ → Bool
 has_way routes id = list_any (λ route. route.id == id) routes
 
--- the place of the id's route, where places are numbered on from this one
+-- the place of the id's route, if places are numbered on from this one
 abbrev pub way_from : ℕ → List RouteRow → ℕ → Option ℕ
 way_from place [] id = None
 way_from place (route ∷ routes) id =

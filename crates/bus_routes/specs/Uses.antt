@@ -4,7 +4,7 @@ use Rattle.std.specs.Prelude.{ℕ, ◌+◌, ◌==◌, if◌then◌else◌, List,
 use Rattle.bus_routes.specs.declared.tables.ItemRow.{ItemRow}
 use Rattle.bus_routes.specs.Rows.{Row}
 
--- 1 where there is an item, and it is of this send
+-- 1 if there is an item, and it is of this send
 abbrev pub item_use : ℕ → Option ItemRow → ℕ
 item_use number None = 0
 item_use number (Some item) = if item.number == number then 1 else 0

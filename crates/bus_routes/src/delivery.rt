@@ -76,8 +76,8 @@ pub(crate) fn along<L: Ledger>(
     reached
 }
 
-// Offers the message to a live subscription: 1 where its pipe takes it, else 0. Adds the pipe to
-// those that miss it, where it does, or where it dropped its oldest message for it.
+// Offers the message to a live subscription: 1 if its pipe takes it, else 0. Adds the pipe to
+// those that miss it, if it does, or if it dropped its oldest message for it.
 fn offer(
     pipes: &mut PipeTable,
     subs: &mut Subs,
@@ -121,7 +121,7 @@ fn offer(
         sub,
     };
     let is_over = row.admission() == subscriptions::Admission::OverLimit;
-    // The pipe's number is read again where it misses the message, so it isn't kept where it
+    // The pipe's number is read again if it misses the message, so it isn't kept if it
     // doesn't.
     let offered = pipes.offer(pipe, message.sender, is_over, item);
     match offered.verdict {

@@ -46,7 +46,7 @@
 //!   destinations are its live subscriptions in order, and no pair is live twice
 //!   (`specs/Inside.antt`).
 //!
-//! By reading: a look-up by id searches nothing; one by a pipe's number looks first where the pipe
+//! By reading: a look-up by id searches nothing; one by a pipe's number looks first if the pipe
 //! is while none was deleted, then by halves; only `new` takes memory.
 //!
 //! Tested: it can be opened; a first message, and a run of most calls.

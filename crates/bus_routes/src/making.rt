@@ -22,7 +22,7 @@ pub(crate) fn item_row(item: Option<Item>) -> Option<ItemRow>
     })
 }
 
-/// One message fewer of the item's subscription waits; no effect where there is no item.
+/// One message fewer of the item's subscription waits; no effect if there is no item.
 pub(crate) fn count_down(subs: &mut Subs, item: Option<Item>)
     requires { IfSome item (λ i. ForSome (live_at subs.old i.sub) (λ s. 1 ≤ s.waiting)) }
     ensures { subs.new ≡ fewer_by item subs.old }
@@ -32,7 +32,7 @@ pub(crate) fn count_down(subs: &mut Subs, item: Option<Item>)
     }
 }
 
-/// The number of the id's route, which is made where the id has none.
+/// The number of the id's route, which is made if the id has none.
 pub(crate) fn route_for(routes: &mut Routes, id: u16) -> u32
     requires first { 1 ≤ id }
     requires last { id ≤ 0x1FFF }

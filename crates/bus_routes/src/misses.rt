@@ -48,7 +48,7 @@ impl Misses {
     /// later call takes memory.
     ///
     /// # Errors
-    /// Where memory runs out.
+    /// If memory runs out.
     pub fn new(alloc: Global, room: u32) -> Result<Misses, AllocError>
         ensures { IfOk result
             (λ misses. misses ≡ record { items = []; dropped = []; room = room }) }

@@ -6,7 +6,7 @@ use routing::Routes;
 use step_count::{Ledger, Steps};
 use subscriptions::{SubNo, Subs};
 
-/// The first live subscription of an id to a pipe; None exactly where there is none. It goes along
+/// The first live subscription of an id to a pipe; None if and only if there is none. It goes along
 /// the id's destinations up to there.
 pub(crate) fn first_of<L: Ledger>(
     subs: &Subs,

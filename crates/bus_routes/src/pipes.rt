@@ -122,7 +122,7 @@ impl BusTables {
     }
 
     /// Ends the live pipe of this number, from which every message was taken out, with its
-    /// subscriptions; no effect where none is live. By the code, looks at as many subscriptions as
+    /// subscriptions; no effect if none is live. By the code, looks at as many subscriptions as
     /// ever were live at once, for each that ends and once more.
     pub fn delete_pipe<L: Ledger>(&mut self, number: u32, steps: &mut Steps<L>)
         requires waits { oldest_on self.old.pipes number ≡ None }

@@ -73,7 +73,7 @@ impl BusTables {
     /// call takes memory.
     ///
     /// # Errors
-    /// Where memory runs out.
+    /// If memory runs out.
     pub fn new(alloc: Global, config: &Config) -> Result<BusTables, AllocError>
         ensures { IfOk result (λ tables. tables ≡ opened (limits_of config.now)) }
     {
@@ -93,7 +93,7 @@ impl BusTables {
         self.routes.route_of(id)
     }
 
-    /// Does the same where the live pipe of this number is the application's; None if and only if
+    /// Does the same if the live pipe of this number is the application's; None if and only if
     /// it has no such pipe, and then nothing changes. By the code, the number is looked up once.
     pub fn take_if_owned(&mut self, app: AppNo, number: u32) -> Option<LastItems>
         ensures owned { is_some result ≡ owns self.old.pipes app number }

@@ -14,7 +14,7 @@ pub some-mapped : {A B : Type 0} (f : A → B) (o : Option A) → is_some (optio
 some-mapped f None = refl
 some-mapped f (Some x) = refl
 
--- the bag has a block exactly where the application has an unsent buffer of this number
+-- the bag has a block if and only if the application has an unsent buffer of this number
 pub unsent_found : (core : Core) (app : ℕ) (bag : Holding LentBytes) → HasBag core app bag → (number : ℕ) → is_some (buffer_at bag number) ≡ has_unsent (state_of core).unsent app number
 unsent_found core app bag has number =
     let of_buffer : Buffer → Shape = λ b. record { desc = desc_of (descs_of core) number; size = size_for core.limits.sizes b.size; asked = b.size } in

@@ -32,7 +32,7 @@ own_left core app mine first known called own =
     ap (λ (es : List Entry). allowance_of (left_of (record { budgets = budgets; entries = es })) app) (sym own)
     ∙ allowed_by_own (allowances budgets) app core.log.entries first (omega (arith, known, length-left_of (record { budgets = budgets; entries = [] }))) called
 
--- an application of which the history has no entry is active, has its budget, and may make a call where this allows one
+-- an application of which the history has no entry is active, has its budget, and may make a call if this allows one
 pub fresh_permits : (core : Core) (app : ℕ) (permits : Permits) → 1 ≤ app → app ≤ length core.log.budgets → All (λ (e : Entry). 1 ≤ e.app) core.log.entries → own_entries app core.log.entries ≡ [] →
     permits.left ≡ record { entries = (budget_of core.log.budgets app).entries; bytes = (budget_of core.log.budgets app).bytes } →
     permits.any ≡ leb 1 permits.left.entries → permits.last ≡ leb 1 permits.left.entries → Tells core app permits

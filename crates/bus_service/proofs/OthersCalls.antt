@@ -18,7 +18,7 @@ use Rattle.sb_calls.specs.Notes.{AreDue}
 
 -- Entries behind a core's history. --
 
--- where the notes of a history are due, so are those of its two parts
+-- if the notes of a history are due, so are those of its two parts
 due-parts : (es more : List Entry) (notes others : List Note) → length notes ≡ length es → AreDue (es ++ more) (notes ++ others) → AreDue es notes × AreDue more others
 due-parts [] more [] others even due = (tt, due)
 due-parts [] more (n ∷ notes) others even due = absurd (omega (arith, even))
@@ -30,7 +30,7 @@ abbrev with_more : Core → List Entry → List Note → Core
 with_more core more fresh =
     record { limits = core.limits; log = record { budgets = core.log.budgets; entries = core.log.entries ++ more }; notes = core.notes ++ fresh }
 
--- where they are of others, only others called meanwhile
+-- if they are of others, only others called meanwhile
 pub others_more : (core : Core) (more : List Entry) (fresh : List Note) (app : ℕ) → length core.notes ≡ length core.log.entries → IsLegalCore (with_more core more fresh) → IsNoted (with_more core more fresh) →
     All (λ (e : Entry). e.app ≢ app) more → CalledByOthers core (with_more core more fresh) app
 others_more core more fresh app even legal noted others =

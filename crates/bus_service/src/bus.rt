@@ -45,7 +45,7 @@ impl<'r> Bus<'r> {
     /// A bus on which no call was made, as [`BusCore::new`] makes it, and its main part.
     ///
     /// # Errors
-    /// Where memory runs out.
+    /// If memory runs out.
     pub fn new(
         alloc: Global,
         cfg: &Config,
@@ -76,7 +76,7 @@ impl<'r> Bus<'r> {
     /// no call, and holds nothing.
     ///
     /// # Errors
-    /// Where memory runs out: the application has no port then, and may still get one.
+    /// If memory runs out: the application has no port then, and may still get one.
     pub fn port(
         &self,
         alloc: Global,

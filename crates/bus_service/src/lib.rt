@@ -31,8 +31,8 @@
 //!
 //! # Proved
 //!
-//! - Each call of a port is made where the core as last seen allows it (`MayCall`; `may_make` tests
-//!   it, and `may_look` for a look, without the lock) and, if it asks for a buffer, where the bag
+//! - Each call of a port is made if the core as last seen allows it (`MayCall`; `may_make` tests
+//!   it, and `may_look` for a look, without the lock) and, if it asks for a buffer, if the bag
 //!   has room. It answers and leaves what the bus's `step` says after the entries of others. The
 //!   history seen then ends with this entry and is legal (`Answers`). A look that answers Pending
 //!   adds no entry, and the bus answers Pending at the history seen (`AnswersLook`).

@@ -28,7 +28,7 @@ impl BusPort<'_> {
     /// that of an allocation on its bag: it is active (for its end, it hasn't ended), it has an
     /// entry and the call's bytes left, and a name has at most 64 bytes, a message at most 65542,
     /// an event's text at most 200, and a log mode is 0 or 1. A buffer's transmission is asked for
-    /// with the bytes that the bag has of the buffer, none where it has no such buffer. Of a look
+    /// with the bytes that the bag has of the buffer, none if it has no such buffer. Of a look
     /// it says no, whatever the application does: [`BusPort::may_look`] tells of that. Told without
     /// the lock.
     pub fn may_make(&self, call: &BusCall<'_>) -> bool

@@ -97,7 +97,7 @@ impl<'r> BusPort<'r> {
         self.bag.buffer_room()
     }
 
-    /// The message received last from a pipe; None exactly where the pipe has none, or isn't this
+    /// The message received last from a pipe; None if and only if the pipe has none, or isn't this
     /// application's. Takes neither the lock nor the runtime.
     pub fn last(&self, pipe: u32) -> Option<&[u8]>
         ensures last { option_map (λ bytes. bytes.now) result ≡

@@ -91,7 +91,7 @@ impl<'r> BusPort<'r> {
         self.visit(bus, rt, Receive { pipe })
     }
 
-    /// Takes the oldest message that waits on a pipe of the application's; where none waits,
+    /// Takes the oldest message that waits on a pipe of the application's; if none waits,
     /// and it is no time-out, the application waits on the pipe from then on, and looks again
     /// by [`BusPort::look`], as [`BusCore::pend`] does at the application's turn, which it
     /// waits for.

@@ -100,7 +100,7 @@ impl<S: Memory + Drop, V: MessageView + Drop> PortOf<S, V> {
         bag.bytes_of_mut(buf as u64)
     }
 
-    /// The bytes of an unsent buffer of the application's, for writing; None exactly where it has
+    /// The bytes of an unsent buffer of the application's, for writing; None if and only if it has
     /// no such buffer. Takes neither the lock nor the runtime, and makes no entry.
     pub fn buffer(&mut self, buf: u32) -> Option<&mut [u8]>
         ensures* writes_back { sem 𝓛

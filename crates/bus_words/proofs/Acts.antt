@@ -409,7 +409,7 @@ module _ (limits : Limits) (history : List Entry) (s : State) (app : ℕ) (ways 
         silent = λ n none. quiet_still n (lacked n (has_route s.routed n) refl none);
       }
 
-  -- an accepted send moves its id's count, where it was asked to and the id has a subscription
+  -- an accepted send moves its id's count, if it was asked to and the id has a subscription
   sends : (bytes : List ℕ) (inc : Bool) → Moves limits history s app (Transmit bytes inc) (accept limits history s app (Transmit bytes inc))
   sends bytes inc = by_route (route s.subscriptions (message_id bytes)) refl
     where

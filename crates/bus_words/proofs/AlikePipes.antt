@@ -39,7 +39,7 @@ pub record AreSame (own : ℕ → ℕ) (live pipe : Pipe) : Type 0 where
   pub known : Each (λ item. 1 ≤ own item.subscription) live.queue
   pub last : last_of pipe.last ≡ last_of live.last
 
--- where the pipe isn't live, the pipe alone has no message
+-- if the pipe isn't live, the pipe alone has no message
 abbrev pub IsSeen : (ℕ → ℕ) → Option Pipe → Pipe → Type 0
 IsSeen own None pipe = (pipe.queue ≡ []) × (pipe.last ≡ None)
 IsSeen own (Some live) pipe = AreSame own live pipe

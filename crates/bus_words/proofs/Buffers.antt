@@ -19,7 +19,7 @@ OtherBuffer n buffer = (buffer.number == n) ≡ false
 
 -- All together. --
 
--- a number is an unsent buffer's where it is that of one of them all
+-- a number is an unsent buffer's if it is that of one of them all
 pub unsent_in : (unsent : List (List Buffer)) (n : ℕ) → is_unsent unsent n ≡ list_any (of_buffer n) (buffers_in unsent)
 unsent_in [] n = refl
 unsent_in (buffers ∷ others) n =
@@ -39,7 +39,7 @@ not_unsent unsent n none = any_none (of_buffer n) (buffers_in unsent) (sym (unse
 pub none_unsent : (unsent : List (List Buffer)) (n : ℕ) → Each (OtherBuffer n) (buffers_in unsent) → is_unsent unsent n ≡ false
 none_unsent unsent n each = unsent_in unsent n ∙ none_any (of_buffer n) (buffers_in unsent) each
 
--- a number that is an unsent buffer's was one before, where no buffer of it is new
+-- a number that is an unsent buffer's was one before, if no buffer of it is new
 pub was_unsent : (n : ℕ) (unsent after : List (List Buffer)) → (Each (OtherBuffer n) (buffers_in unsent) → Each (OtherBuffer n) (buffers_in after)) →
     is_unsent after n ≡ true → is_unsent unsent n ≡ true
 was_unsent n unsent after keeps is = by_test (is_unsent unsent n) refl
@@ -150,7 +150,7 @@ has_counted n (buffer ∷ buffers) has =
       | false ↦ λ is found. omega (arith, split, has_counted n buffers found)
     ] refl has
 
--- of the number that left there is none any more, where there was one at most
+-- of the number that left there is none any more, if there was one at most
 pub count_gone : (n : ℕ) (unsent : List (List Buffer)) (app : ℕ) → has_unsent unsent app n ≡ true → count_by (of_buffer n) (buffers_in unsent) ≤ 1 →
     count_by (of_buffer n) (buffers_in (without_unsent unsent app n)) ≡ 0
 count_gone n unsent app has once =

@@ -41,7 +41,7 @@ event-by desk app id kind text (Some filters) is =
     (either_has desk.refused (passes filters id) (passed (tested desk app filters id) app id kind text)
     (record (tested desk app filters id) { filtered = counted desk.filtered }) refl refl)
 
--- an event is counted as refused where it has a refusal
+-- an event is counted as refused if it has a refusal
 event-refused : (desk : Desk) (app id : ℕ) (kind : EventKind) (text : List ℕ) →
     (sent desk app id kind text).refused ≡ counted_if (is_some (send_refusal desk app)) desk.refused
 event-refused desk app id kind text = event-by desk app id kind text (filters_of desk app) refl
@@ -137,7 +137,7 @@ step-refused limits history s app call = by_call (may_be_refused call) refl
 
 -- Histories. --
 
--- a count that was so many, at most the largest, and one more where the test holds
+-- a count that was so many, at most the largest, and one more if the test holds
 raised-more : (b : Bool) (n : ℕ) → counted_if b (min n (2 ^ 32 - 1)) ≡ min (n + cond {A = ℕ} b 1 0) (2 ^ 32 - 1)
 raised-more true n = omega arith
 raised-more false n = omega arith

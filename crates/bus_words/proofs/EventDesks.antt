@@ -122,7 +122,7 @@ leaves_desk Housekeeping = true
 leaves_desk Figures = true
 leaves_desk End = false
 
--- such a call leaves the desk as it is, where the bus tells nothing of it
+-- such a call leaves the desk as it is, if the bus tells nothing of it
 pub quiet_desk : (desk : Desk) (app : ℕ) (call : Call) → IsTrue (leaves_desk call) → desk_by desk app call [] ≡ desk
 unfolding desk_by
 quiet_desk desk app (Create depth name) leaves = refl

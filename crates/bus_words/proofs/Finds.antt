@@ -81,7 +81,7 @@ filter-push {X} test (y ∷ xs) x =
       | false ↦ filter-push test xs x
     ]
 
--- two filters change places, where the second asks of what passes the first as much as another does
+-- two filters change places, if the second asks of what passes the first as much as another does
 pub filters : {X : Type 0} (first second other : X → Bool) → ((x : X) → first x ≡ true → second x ≡ other x) → (xs : List X) →
     filter first (filter second xs) ≡ filter other (filter first xs)
 filters first second other same [] = refl
@@ -112,7 +112,7 @@ pub filter-none : {X : Type 0} (xs : List X) → filter (λ x. false) xs ≡ []
 filter-none [] = refl
 filter-none (x ∷ xs) = filter-none xs
 
--- nothing passes where no item does
+-- nothing passes if no item does
 pub filter-any : {X : Type 0} (test : X → Bool) (xs : List X) → list_any test xs ≡ false → filter test xs ≡ []
 filter-any test [] none = refl
 filter-any {X} test (x ∷ xs) none =
@@ -179,7 +179,7 @@ find-filter {X} test keeps kept (x ∷ xs) =
       ]
     ] refl
 
--- where a filter drops all that pass the test, the test finds nothing
+-- if a filter drops all that pass the test, the test finds nothing
 pub find-filter_none : {X : Type 0} (test keeps : X → Bool) → ((x : X) → test x ≡ true → keeps x ≡ false) → (xs : List X) → find test (filter keeps xs) ≡ None
 find-filter_none test keeps dropped [] = refl
 find-filter_none {X} test keeps dropped (x ∷ xs) =
@@ -191,7 +191,7 @@ find-filter_none {X} test keeps dropped (x ∷ xs) =
       ]
     ] refl
 
--- nothing is found where no item passes
+-- nothing is found if no item passes
 pub find-any : {X : Type 0} (test : X → Bool) (xs : List X) → list_any test xs ≡ false → find test xs ≡ None
 find-any test [] none = refl
 find-any {X} test (x ∷ xs) none =
@@ -200,7 +200,7 @@ find-any {X} test (x ∷ xs) none =
       | false ↦ λ is. find-any test xs is
     ] none
 
--- no item of a part passes where none of the whole does
+-- no item of a part passes if none of the whole does
 pub any-filter_none : {X : Type 0} (test keeps : X → Bool) (xs : List X) → list_any test xs ≡ false → list_any test (filter keeps xs) ≡ false
 any-filter_none test keeps [] none = refl
 any-filter_none {X} test keeps (x ∷ xs) none =
@@ -210,7 +210,7 @@ any-filter_none {X} test keeps (x ∷ xs) none =
       | false ↦ any-filter_none test keeps xs parts.1
     ]
 
--- where no item passes both tests, one that passes the first is left when those of the second leave
+-- if no item passes both tests, one that passes the first is left when those of the second leave
 pub any-rest : {X : Type 0} (test leaves : X → Bool) (xs : List X) → list_any test xs ≡ true → list_any (λ x. test x && leaves x) xs ≡ false →
     list_any test (filter (λ x. not (leaves x)) xs) ≡ true
 any-rest test leaves [] some none = some

@@ -1,4 +1,4 @@
--- The bytes of the pool that are in use, told by the numbers that are held; and that nothing is held where no pipe is live and no
+-- The bytes of the pool that are in use, told by the numbers that are held; and that nothing is held if no pipe is live and no
 -- buffer is unsent.
 use Rattle.std.proofs.Common.{◌≡◌, ℕ, zero, suc, ◌+◌, ◌*◌, ◌==◌, false, cond, List, [], ◌∷◌, length, replicate, filter, slice_index, Option, Some, None, refl, ap, sym, ◌∙◌, arith}
 use Rattle.std.specs.Prelude.{count_by, sum_by}
@@ -103,7 +103,7 @@ no_blocks f none (suc n) =
     ap (λ k. k ∷ each_below (λ i. f (suc i)) n) (none 0)
     ∙ ap (λ (l : List ℕ). 0 ∷ l) (no_blocks (λ i. f (suc i)) (λ i. none (suc i)) n)
 
--- where no pipe is live and no buffer is unsent nothing is held
+-- if no pipe is live and no buffer is unsent nothing is held
 pub holds_nothing : (limits : Limits) (s : State) → s.pipes ≡ [] → buffers_in s.unsent ≡ [] → HoldsNothing limits s
 holds_nothing limits s is empty =
     let none : held s.pipes s.unsent s.numbers_given ≡ [] =

@@ -129,7 +129,7 @@ not_on_pipes n pipes is = of_items (Other n) pipes (none_counted (of_number n) (
 pub none_on_pipes : (n : ℕ) (pipes : List Pipe) → Each (OfPipe (Other n)) pipes → is_on_pipes pipes n ≡ false
 none_on_pipes n pipes each = ap (leb 1) (named_items n pipes ∙ all_none (of_number n) (items_of pipes) (to_items (Other n) pipes each))
 
--- a send that pipes name was named before, where no item of it is new
+-- a send that pipes name was named before, if no item of it is new
 pub was_on_pipes : (n : ℕ) (pipes next : List Pipe) → (Each (OfPipe (Other n)) pipes → Each (OfPipe (Other n)) next) → is_on_pipes next n ≡ true →
     is_on_pipes pipes n ≡ true
 was_on_pipes n pipes next keeps is = by_test (is_on_pipes pipes n) refl
@@ -138,7 +138,7 @@ was_on_pipes n pipes next keeps is = by_test (is_on_pipes pipes n) refl
     by_test true so = so
     by_test false so = absurd (true≢false (sym is ∙ none_on_pipes n next (keeps (not_on_pipes n pipes so))))
 
--- a number that is held was held before, where no item and no buffer of it is new
+-- a number that is held was held before, if no item and no buffer of it is new
 pub was_held : (n : ℕ) (pipes next : List Pipe) (unsent after : List (List Buffer)) → (Each (OfPipe (Other n)) pipes → Each (OfPipe (Other n)) next) →
     (Each (OtherBuffer n) (buffers_in unsent) → Each (OtherBuffer n) (buffers_in after)) → is_held next after n ≡ true → is_held pipes unsent n ≡ true
 was_held n pipes next unsent after keeps_items keeps_buffers is = by_test (is_on_pipes next n) refl

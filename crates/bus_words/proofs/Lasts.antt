@@ -132,7 +132,7 @@ from-filter keeps (x ∷ pipes) p single = by_tests (x.number == p) refl (keeps 
     by_tests false e true ih item is = ih item (ap (λ b. option_and_then (λ (y : Pipe). y.last) (cond {A = Option Pipe} b (Some x) (pipe_at (filter keeps pipes) p))) (sym e) ∙ is)
     by_tests false e false ih item is = ih item is
 
--- a receive on another pipe, and on one where nothing waits
+-- a receive on another pipe, and on one if nothing waits
 from-other : (pipes : List Pipe) (p pipe : ℕ) → (p == pipe) ≡ false → IsFrom pipes (with_pipe after_receive pipe pipes) p
 from-other pipes p pipe differ =
     from-same pipes (with_pipe after_receive pipe pipes) p (ap (option_and_then (λ (x : Pipe). x.last)) (changed_other after_receive (λ x. refl) p pipe pipes differ))

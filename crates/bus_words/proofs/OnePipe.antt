@@ -386,7 +386,7 @@ goes-send own p top id sending pipes subs a pairs live alike = record {
   given = refl;
 }
 
--- an accepted send where the pipe isn't made
+-- an accepted send if the pipe isn't made
 pub goes-early : (own : ℕ → ℕ) (p top created id : ℕ) (sending : Sending) (pipes : List Pipe) (subs : List Subscription) (a : Alone) → ArePairs subs →
     AreRising 0 created (map (λ pipe. pipe.number) pipes) → (nat_le 1 p && nat_le p created) ≡ false → AreAlike own top (pipe_at pipes p) (mine p subs) a →
     Goes p [] false top (deliver sending (route subs id) pipes) subs a

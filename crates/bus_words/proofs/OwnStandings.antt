@@ -236,7 +236,7 @@ pend_may Active pipe may = refl
 pend_may (Waiting at) pipe may = absurd (true≢false (sym may))
 pend_may Ended pipe may = absurd (true≢false (sym may))
 
--- and one that looks again, which makes an entry only where it finds something
+-- and one that looks again, which makes an entry only if it finds something
 look_by : (s : State) (app pipe : ℕ) (empty idle : Bool) → standing_of s app ≡ Waiting pipe →
     IsTrue (makes_entry (Look pipe) (cond {A = BusAnswer} (not empty) (Got (oldest_number s.pipes pipe)) (cond {A = BusAnswer} idle TimeOut Pending))) →
     standing_of (cond {A = State} (empty && not idle) s (with_standing (received s pipe) app Active)) app ≡ Active

@@ -1,4 +1,4 @@
--- No application that has ended owns a live pipe or has an unsent buffer; so where all have ended nothing is left.
+-- No application that has ended owns a live pipe or has an unsent buffer; so if all have ended nothing is left.
 use Rattle.std.proofs.Common.{◌≡◌, ℕ, zero, suc, ◌+◌, ◌-◌, ◌<◌, ◌≤◌, ◌⊎◌, inl, inr, ◌==◌, ◌&&◌, ◌||◌, not, Bool, true, false, cond, true≢false, eqb-true, eq-eqb, ne_eqb, IsTrue, List, [], ◌∷◌, ◌++◌, length, filter, replicate, slice_index_or, slice_set, refl, ap, sym, ◌∙◌, subst, arith}
 use Rattle.std.proofs.lemmas.Bool.{cases_lt}
 use Rattle.std.proofs.lemmas.List.{get_or-set_other, get_or_past}
@@ -48,7 +48,7 @@ set_goes (x ∷ xs) zero (suc j) standing new old = old
 set_goes (x ∷ xs) (suc i) zero standing new old = old
 set_goes (x ∷ xs) (suc i) (suc j) standing new old = set_goes xs i j standing new old
 
--- where an application starts to wait, or goes on, nobody ends
+-- if an application starts to wait, or goes on, nobody ends
 still_goes : (s : State) (app owner : ℕ) (standing : Standing) → has_ended standing ≡ false → has_ended (standing_of s owner) ≡ false →
     has_ended (standing_of (with_standing s app standing) owner) ≡ false
 still_goes s app owner standing new old =
@@ -63,7 +63,7 @@ has_number : (s : State) (app : ℕ) → has_ended (standing_of s app) ≡ false
 has_number s zero going = absurd (true≢false going)
 has_number s (suc app) going = omega arith
 
--- where an application ends, no other does
+-- if an application ends, no other does
 other_goes : (s : State) (app owner : ℕ) → has_ended (standing_of s app) ≡ false → (owner == app) ≡ false → has_ended (standing_of s owner) ≡ false →
     has_ended (standing_of (ended s app) owner) ≡ false
 other_goes s app owner going differ old =
@@ -127,7 +127,7 @@ owns_none s app number (pipe ∷ pipes) owned over =
       | false ↦ owns_none s app number pipes owned.1 over
     ]
 
--- and where all have ended there is none
+-- and if all have ended there is none
 pub none_left : (s : State) (pipes : List Pipe) → Each (λ pipe. has_ended (standing_of s pipe.owner) ≡ false) pipes →
     ((app : ℕ) → has_ended (standing_of s app) ≡ true) → pipes ≡ []
 none_left s [] owned over = refl
@@ -212,7 +212,7 @@ AreHanded-after limits apps history legal = handed_from limits [] (opening limit
     nothing (suc n) zero = refl
     nothing (suc n) (suc i) = nothing n i
 
--- where all have ended there is none
+-- if all have ended there is none
 pub none_unsent : (unsent : List (List Buffer)) → ((i : ℕ) → slice_index_or unsent i [] ≡ []) → buffers_in unsent ≡ []
 none_unsent [] none = refl
 none_unsent (buffers ∷ others) none = ap (λ (l : List Buffer). l ++ buffers_in others) (none 0) ∙ none_unsent others (λ i. none (suc i))

@@ -1,4 +1,4 @@
--- What is delivered commutes with a map of items: where items of one kind stand for items of another, pipes of these stand for
+-- What is delivered commutes with a map of items: if items of one kind stand for items of another, pipes of these stand for
 -- pipes of those, and each change of the one is that change of the other.
 use Rattle.std.proofs.Common.{◌≡◌, ℕ, ◌+◌, Bool, true, false, ◌&&◌, cond, eqb, leb, List, [], ◌∷◌, map, count_by, drop, Option, Some, None, refl, ap, sym, ◌∙◌}
 use Rattle.std.specs.Prelude.{nat_lt}

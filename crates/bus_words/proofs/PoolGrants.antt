@@ -53,7 +53,7 @@ pools_from limits history s (e ∷ es) are =
     subst (λ (h : List Entry). ArePools limits (length h) (state_from limits (history ++ e ∷ []) next es).pools) (append_assoc history (e ∷ []) es)
     (pools_from limits (history ++ e ∷ []) next es now)
 
--- where the bus opens there is no pool
+-- if the bus opens there is no pool
 pub ArePools-opening : (limits : Limits) (apps : ℕ) → ArePools limits 0 (opening limits apps).pools
 ArePools-opening limits apps = record {
   most = refl;

@@ -28,7 +28,7 @@ use Rattle.bus_words.specs.Readings.{gets_grant, is_refused_return, count_of, ac
 use Rattle.bus_words.proofs.PoolGrants.{ArePools-step, ArePools-opening}
 use Rattle.bus_words.proofs.Steps.{after_choice, refused_receive, with_subscription}
 
--- one more, short of the last value of a count, where the test holds
+-- one more, short of the last value of a count, if the test holds
 abbrev raised : Bool → ℕ → ℕ
 raised test n = cond test (counted n) n
 
@@ -37,7 +37,7 @@ record Raises (pool : ℕ) (call : Call) (s next : Pools) (answer : BusAnswer) :
   pub requests : (pool_in next pool).requests ≡ raised (gets_grant pool call answer) ((pool_in s pool).requests)
   pub errors : (pool_in next pool).errors ≡ raised (is_refused_return pool call answer) ((pool_in s pool).errors)
 
--- where the call is neither, no count changes
+-- if the call is neither, no count changes
 neither : (pool : ℕ) (call : Call) (s next : Pools) (answer : BusAnswer) → gets_grant pool call answer ≡ false → is_refused_return pool call answer ≡ false →
     (pool_in next pool).requests ≡ (pool_in s pool).requests → (pool_in next pool).errors ≡ (pool_in s pool).errors → Raises pool call s next answer
 neither pool call s next answer gets refused requests errors = record {
@@ -104,7 +104,7 @@ changed s number pool after from there =
     by_number false other =
         get_or-set_other s.pools (number - 1) (pool - 1) after (new_pool [] 0) (λ is. absurd (true≢false (grind (arith, nat_tests, is, from, there, other))))
 
--- where there is no such pool nothing changes
+-- if there is no such pool nothing changes
 unchanged : (s : Pools) (number : ℕ) (after : PoolGrants) → is_pool s number ≡ false → with_pool s number after ≡ s
 unchanged s number after none = ap (λ b. cond {A = Pools} b (record s { pools = set s.pools (number - 1) after }) s) none
 
@@ -386,7 +386,7 @@ step-raises limits history s pool app call from counts =
     by_call call true is = returns call is
     by_call call false is = by_cause call (cause limits s app call) refl is
 
--- a count that was so many, at most the largest, and one more where the test holds
+-- a count that was so many, at most the largest, and one more if the test holds
 raised-more : (b : Bool) (n : ℕ) → raised b (min n (2 ^ 32 - 1)) ≡ min (n + cond {A = ℕ} b 1 0) (2 ^ 32 - 1)
 raised-more true n = omega arith
 raised-more false n = omega arith

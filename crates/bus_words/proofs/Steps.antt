@@ -56,7 +56,7 @@ with_sent limits s sending subs = record s {
   drawn = (account_drawn limits s sending.asked).requests;
 }
 
--- where a refusal doesn't come, its test is false, and none that follow come
+-- if a refusal doesn't come, its test is false, and none that follow come
 pub refused_if-none : (test : Bool) (status : SbStatus) (others : Option SbStatus) → refused_if test status others ≡ None → (test ≡ false) × (others ≡ None)
 refused_if-none true status others none = cc
 refused_if-none false status others none = (refl, none)

@@ -40,7 +40,7 @@ unsent-other limits history s who app call may differ first =
       passes = λ sending id. other _;
     })
 
--- Where no two buffers have one number. --
+-- If no two buffers have one number. --
 
 -- the number of a buffer that left is no unsent buffer's any more
 pub gone-unsent : (unsent : List (List Buffer)) (app n : ℕ) → count_by (of_buffer n) (buffers_in unsent) ≤ 1 → has_unsent unsent app n ≡ true →
@@ -48,7 +48,7 @@ pub gone-unsent : (unsent : List (List Buffer)) (app n : ℕ) → count_by (of_b
 gone-unsent unsent app n once has =
     none_unsent (without_unsent unsent app n) n (none_counted (of_buffer n) (buffers_in (without_unsent unsent app n)) (count_gone n unsent app has once))
 
--- nor is it where all of the application's left
+-- nor is it if all of the application's left
 pub all_gone-unsent : (unsent : List (List Buffer)) (app n : ℕ) → count_by (of_buffer n) (buffers_in unsent) ≤ 1 → has_unsent unsent app n ≡ true →
     is_unsent (without_all_unsent unsent app) n ≡ false
 all_gone-unsent unsent app n once has =

@@ -25,7 +25,7 @@ pub record Whole : Type 0 where
   pub bus : State
   pub nexts : List NextCount
 
--- the id's next count; 0 where it has no route
+-- the id's next count; 0 if it has no route
 abbrev pub next_in : List NextCount → ℕ → ℕ
 next_in nexts id = option_map_or (λ n. n.next) (find (λ n. n.id == id) nexts) 0
 
@@ -87,11 +87,11 @@ abbrev pub nexts_of : Limits → List Entry → List ℕ → List NextCount
 nexts_of limits history ids =
     map (λ id. record { id = id; next = next_count limits history id }) ids
 
--- all of the state, where the bus is this after this history
+-- all of the state, if the bus is this after this history
 abbrev pub whole_of : Limits → List Entry → State → Whole
 whole_of limits history s = record { bus = s; nexts = nexts_of limits history s.routed }
 
--- two readings tell a call the same, where the bus is this: no call asks for the count of an id
+-- two readings tell a call the same, if the bus is this: no call asks for the count of an id
 -- without a route
 pub record AreAlike (reads other : Reads) (s : State) : Type 0 where
   pub next : (id : ℕ) → has_route s.routed id ≡ true → reads.next id ≡ other.next id

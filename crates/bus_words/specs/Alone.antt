@@ -51,7 +51,7 @@ unmade = record { pipe = empty_pipe 0 0; subscriptions = []; made = 0 }
 abbrev pub own_subscription : Alone → ℕ → Option Subscription
 own_subscription a id = find (λ sub. sub.id == id) a.subscriptions
 
--- one subscription more; none where the id has a live one
+-- one subscription more; none if the id has a live one
 abbrev pub sub_alone : Alone → ℕ → ℕ → Alone
 sub_alone a id limit =
     if list_any (λ sub. sub.id == id) a.subscriptions then a
@@ -62,7 +62,7 @@ sub_alone a id limit =
       made = a.made + 1;
     })
 
--- the pipe is offered the message where it has a live subscription to its id: it makes of it what
+-- the pipe is offered the message if it has a live subscription to its id: it makes of it what
 -- the verdict says
 abbrev pub sent_alone : Alone → ℕ → ℕ → ℕ → List ℕ → Alone
 sent_alone a sender id number message =
@@ -121,7 +121,7 @@ solo_receipts a (input ∷ inputs) = given a input ++ solo_receipts (input_alone
 
 -- What a history is to one pipe. --
 
--- the input where the call was accepted and is on this pipe
+-- the input if the call was accepted and is on this pipe
 abbrev pub if_on : ℕ → ℕ → Input → List Input
 if_on p pipe input = if p == pipe then input ∷ [] else []
 

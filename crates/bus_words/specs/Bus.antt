@@ -110,7 +110,7 @@ has_route routed id = list_any (λ other. other == id) routed
 abbrev pub unsent_of : List (List Buffer) → ℕ → List Buffer
 unsent_of unsent app = slice_index_or unsent (app - 1) []
 
--- the unsent buffer of this number, where it is the application's
+-- the unsent buffer of this number, if it is the application's
 abbrev pub unsent_at : List (List Buffer) → ℕ → ℕ → Option Buffer
 unsent_at unsent app number = find (λ buffer. buffer.number == number) (unsent_of unsent app)
 
@@ -118,7 +118,7 @@ unsent_at unsent app number = find (λ buffer. buffer.number == number) (unsent_
 abbrev pub has_unsent : List (List Buffer) → ℕ → ℕ → Bool
 has_unsent unsent app number = is_some (unsent_at unsent app number)
 
--- its size; 0 where the application has no such buffer
+-- its size; 0 if the application has no such buffer
 abbrev pub unsent_size : List (List Buffer) → ℕ → ℕ → ℕ
 unsent_size unsent app number =
     option_map_or (λ buffer. buffer.size) (unsent_at unsent app number) 0
@@ -222,7 +222,7 @@ has_ended Ended = true
 abbrev pub with_standing : State → ℕ → Standing → State
 with_standing s app standing = record s { standings = slice_set s.standings (app - 1) standing }
 
--- the pipe that an application in this standing waits on; 0, which no pipe has, where it doesn't
+-- the pipe that an application in this standing waits on; 0, which no pipe has, if it doesn't
 -- wait
 abbrev pub waited_on : Standing → ℕ
 waited_on Active = 0

@@ -61,7 +61,7 @@ counters_raised m = counters_of m.entry.call m.entry.answer (service_events m)
 
 -- Statistics. --
 
--- these statistics after a call so answered, of which the bus tells this, where so much is in use
+-- these statistics after a call so answered, of which the bus tells this, if so much is in use
 -- afterwards: its counters go up, and the peaks rise to what is in use
 unfoldable pub statistics_by : Statistics → Call → BusAnswer → List ServiceEvent → InUse →
     Statistics

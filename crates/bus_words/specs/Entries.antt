@@ -76,7 +76,7 @@ call_text Housekeeping = []
 call_text Figures = []
 call_text End = []
 
--- the call with these bytes in place of those that it brings; itself, where it brings none
+-- the call with these bytes in place of those that it brings; itself, if it brings none
 abbrev pub with_text : List ℕ → Call → Call
 with_text text (Create depth name) = Create depth text
 with_text text (Find name) = Find text

@@ -66,14 +66,14 @@ abbrev pub unsubscribe_events : State → ℕ → ℕ → List ServiceEvent
 unsubscribe_events s id pipe =
     if is_subscribed s.subscriptions id pipe then [] else NotSubscribed id pipe ∷ []
 
--- these events, where the call was accepted; of a refused call the bus tells none
+-- these events, if the call was accepted; of a refused call the bus tells none
 abbrev pub unless_refused : BusAnswer → List ServiceEvent → List ServiceEvent
 unless_refused (Sb status) events = []
 unless_refused (Es status) events = []
 unless_refused (Evs status) events = []
 unless_refused answer events = events
 
--- what the bus tells of an application's call so answered, in order, where this is the bus before
+-- what the bus tells of an application's call so answered, in order, if this is the bus before
 -- it. Of a send its id and its sender say enough.
 unfoldable pub call_events : State → ℕ → Call → BusAnswer → List ServiceEvent
 call_events s app (Subscribe id pipe limit scope) answer =

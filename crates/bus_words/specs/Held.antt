@@ -11,12 +11,12 @@ use Rattle.bus_words.specs.Bus.{Item, Pipe, Buffer, State}
 
 -- Sends. --
 
--- 1 where there is an item, and it is of this send
+-- 1 if there is an item, and it is of this send
 abbrev pub names : ℕ → Option Item → ℕ
 names number None = 0
 names number (Some item) = if item.number == number then 1 else 0
 
--- how often a pipe names the send: once for each of its messages that waits, and once where it was
+-- how often a pipe names the send: once for each of its messages that waits, and once if it was
 -- received last
 abbrev pub named_by : ℕ → Pipe → ℕ
 named_by number pipe = count_by (λ item. item.number == number) pipe.queue + names number pipe.last
@@ -53,7 +53,7 @@ abbrev pub buffers_in : List (List Buffer) → List Buffer
 buffers_in [] = []
 buffers_in (buffers ∷ others) = buffers ++ buffers_in others
 
--- the size of the unsent buffer of a number, whosever it is; 0 where there is none
+-- the size of the unsent buffer of a number, whosever it is; 0 if there is none
 abbrev pub size_in : List (List Buffer) → ℕ → ℕ
 size_in unsent number =
     option_map_or (λ buffer. buffer.size)
@@ -83,7 +83,7 @@ blocks_held sizes pipes unsent given =
     each_below (λ class. count_by (has_class pipes unsent sizes class) (held pipes unsent given))
     (length sizes)
 
--- the size of the block for a number that is held; 0 where no size is large enough
+-- the size of the block for a number that is held; 0 if no size is large enough
 abbrev pub block_of : List ℕ → List Pipe → List (List Buffer) → ℕ → ℕ
 block_of sizes pipes unsent number =
     option_map_or (slice_index sizes) (class_of (asked_of pipes unsent number) sizes) 0

@@ -55,11 +55,11 @@ delivered limits history bytes inc = stamped (reads_after limits history) bytes 
 
 -- Refusals. Each call has its own, in the order in which they are tried. --
 
--- this refusal where the test is true, else the ones that follow
+-- this refusal if the test is true, else the ones that follow
 abbrev pub refused_if : {A : Type 0} → Bool → A → Option A → Option A
 refused_if test status others = if test then Some status else others
 
--- where the depth or the name isn't in its range, as many pipes are live as may be, or a live pipe
+-- if the depth or the name isn't in its range, as many pipes are live as may be, or a live pipe
 -- has the name
 abbrev pub create_cause : Limits → State → ℕ → List ℕ → Option SbStatus
 create_cause limits s depth name =
@@ -69,22 +69,22 @@ create_cause limits s depth name =
     (refused_if (nat_le limits.pipes (length s.pipes)) MaxPipesMet
     (refused_if (is_named s.pipes name) PipeCrErr None))
 
--- where the pipe isn't a live one of the application's own
+-- if the pipe isn't a live one of the application's own
 abbrev pub unowned_cause : State → ℕ → ℕ → Option SbStatus
 unowned_cause s app pipe = refused_if (not (owns s.pipes app pipe)) BadArgument None
 
--- where the pipe isn't a live one of the application's own, or a bit is set that the version
+-- if the pipe isn't a live one of the application's own, or a bit is set that the version
 -- doesn't have
 abbrev pub set_opts_cause : Limits → State → ℕ → ℕ → ℕ → Option SbStatus
 set_opts_cause limits s app pipe bits =
     refused_if (not (owns s.pipes app pipe) || nat_lt (all_bits limits.version) bits) BadArgument
     None
 
--- where no pipe of this number is live
+-- if no pipe of this number is live
 abbrev pub dead_cause : State → ℕ → Option SbStatus
 dead_cause s pipe = refused_if (not (is_live s.pipes pipe)) BadArgument None
 
--- where no live pipe has the name
+-- if no live pipe has the name
 abbrev pub find_cause : State → List ℕ → Option SbStatus
 find_cause s name = refused_if (not (is_named s.pipes name)) BadArgument None
 
@@ -97,7 +97,7 @@ subscribe_cause limits s app id pipe =
     MaxMsgsMet
     (refused_if (nat_le limits.dests (length (route s.subscriptions id))) MaxDestsMet None))
 
--- where no message may have the id, or the pipe isn't a live one of the application's own
+-- if no message may have the id, or the pipe isn't a live one of the application's own
 abbrev pub unsubscribe_cause : State → ℕ → ℕ → ℕ → Option SbStatus
 unsubscribe_cause s app id pipe =
     refused_if (not (is_valid_id id) || not (owns s.pipes app pipe)) BadArgument None
@@ -110,47 +110,47 @@ transmit_cause limits s bytes =
     (if length (route s.subscriptions (message_id bytes)) == 0 then None
     else refused_if (not (has_room (account_of limits s) (length bytes))) BufAlocErr None))
 
--- where the pipe isn't a live one of the application's own, or no message waits there
+-- if the pipe isn't a live one of the application's own, or no message waits there
 abbrev pub receive_cause : State → ℕ → ℕ → Option SbStatus
 receive_cause s app pipe =
     refused_if (not (owns s.pipes app pipe)) BadArgument
     (refused_if (is_empty s.pipes pipe) NoMessage None)
 
--- a buffer of a size that a message may have, where the bus's pool has a block for it
+-- a buffer of a size that a message may have, if the bus's pool has a block for it
 abbrev pub allocate_cause : Limits → State → ℕ → Option SbStatus
 allocate_cause limits s size =
     refused_if (nat_lt size 7) BadArgument
     (refused_if (nat_lt limits.msgmax size) MsgTooBig
     (refused_if (not (has_room (account_of limits s) size)) BufAlocErr None))
 
--- where the buffer isn't an unsent one of the application's own, or doesn't begin with a message
+-- if the buffer isn't an unsent one of the application's own, or doesn't begin with a message
 abbrev pub transmit_buffer_cause : State → ℕ → ℕ → List ℕ → Option SbStatus
 transmit_buffer_cause s app buf bytes =
     refused_if (not (has_unsent s.unsent app buf)) BufferInvalid
     (refused_if (is_some (front_fault bytes)) BadArgument None)
 
--- where the buffer isn't an unsent one of the application's own
+-- if the buffer isn't an unsent one of the application's own
 abbrev pub release_cause : State → ℕ → ℕ → Option SbStatus
 release_cause s app buf = refused_if (not (has_unsent s.unsent app buf)) BufferInvalid None
 
--- where no pool of so many bytes can be made
+-- if no pool of so many bytes can be made
 abbrev pub pool_create_cause : State → ℕ → Option EsStatus
 pool_create_cause s bytes = refused_if (refuses_pool s.pools bytes) ErrMemBlockSize None
 
--- where there is no pool of the number, or it has no block for so many bytes
+-- if there is no pool of the number, or it has no block for so many bytes
 abbrev pub pool_get_cause : State → ℕ → ℕ → Option EsStatus
 pool_get_cause s pool size =
     refused_if (not (is_pool s.pools pool)) NoPool
     (refused_if (not (has_room (pool_account (pool_in s.pools pool)) size)) ErrMemBlockSize None)
 
--- where the pool wasn't created, never gave the grant, or the grant isn't out any more
+-- if the pool wasn't created, never gave the grant, or the grant isn't out any more
 abbrev pub pool_put_cause : State → ℕ → ℕ → Option EsStatus
 pool_put_cause s pool grant =
     refused_if (not (is_pool s.pools pool)) NoPool
     (refused_if (not (was_given (pool_in s.pools pool) grant)) BufferNotInPool
     (refused_if (not (is_among (pool_in s.pools pool).out grant)) PoolBlockInvalid None))
 
--- where no pool of this number was created
+-- if no pool of this number was created
 abbrev pub no_pool_cause : State → ℕ → Option EsStatus
 no_pool_cause s pool = refused_if (not (is_pool s.pools pool)) NoPool None
 
@@ -323,7 +323,7 @@ pended_answer s app pipe =
     else if others_idle s app then TimeOut
     else Pending
 
--- the bus after a receive that may wait: after the receive, and where neither a message nor a
+-- the bus after a receive that may wait: after the receive, and if neither a message nor a
 -- time-out came the application waits on the pipe
 abbrev pub pended : State → ℕ → ℕ → State
 pended s app pipe =
@@ -331,7 +331,7 @@ pended s app pipe =
     then with_standing (received s pipe) app (Waiting pipe)
     else received s pipe
 
--- the bus after a look: as after a receive, with the application active again; as before where it
+-- the bus after a look: as after a receive, with the application active again; as before if it
 -- still waits
 abbrev pub looked : State → ℕ → ℕ → State
 looked s app pipe =
@@ -444,7 +444,7 @@ recorded limits s app call made = (
   },
 )
 
--- what the call answers where it sees this beside the bus, and the bus afterwards
+-- what the call answers if it sees this beside the bus, and the bus afterwards
 abbrev pub step_with : Reads → Limits → State → ℕ → Call → BusAnswer × State
 step_with reads limits s app call =
     recorded limits s app call
@@ -481,7 +481,7 @@ makes_entry (Look pipe) Pending = false
 makes_entry call answer = true
 
 -- whether a call brings the bytes that it is about: the transmission of a buffer as many as the
--- application's buffer has, and none where the application has no such buffer
+-- application's buffer has, and none if the application has no such buffer
 abbrev pub brings : List (List Buffer) → ℕ → Call → Bool
 brings unsent app (TransmitBuffer buf bytes inc) = length bytes == unsent_size unsent app buf
 brings unsent app call = true

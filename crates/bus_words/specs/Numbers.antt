@@ -9,7 +9,7 @@ use Rattle.bus_words.specs.declared.history.Entry.{Entry}
 use Rattle.bus_words.specs.Held.{numbers_to}
 use Rattle.bus_words.specs.Machine.{IsLegal, state_after}
 
--- the number of an accepted send; none where nobody subscribes to its id, which is answered by 0
+-- the number of an accepted send; none if nobody subscribes to its id, which is answered by 0
 abbrev pub number_sent : ℕ → List ℕ
 number_sent zero = []
 number_sent (suc n) = suc n ∷ []

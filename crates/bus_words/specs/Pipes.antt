@@ -56,7 +56,7 @@ is_oldest Oldest = true
 is_oldest Full = false
 
 -- why a message is missed at a pipe: the one sent, or the oldest one that the pipe drops for it;
--- none where the pipe takes it and drops none, or ignores its sender
+-- none if the pipe takes it and drops none, or ignores its sender
 abbrev pub cause_of : Verdict → Option MissCause
 cause_of Skip = None
 cause_of OverLimit = Some causes.OverLimit
@@ -173,7 +173,7 @@ module _ {item : Type 0} where
   waiting_of subscription_of pipe subscription =
       count_by (λ queued. subscription_of queued == subscription) pipe.queue
 
-  -- the first of the verdicts that applies to a message of this sender, where it is told whether
+  -- the first of the verdicts that applies to a message of this sender, if it is told whether
   -- its subscription's limit is reached
   abbrev pub verdict_over : Bool → PipeOf item → ℕ → Verdict
   verdict_over is_over pipe sender =
@@ -223,7 +223,7 @@ module _ {item : Type 0} where
   deliver offer (sub ∷ subs) pipes =
       deliver offer subs (with_pipe (offered offer sub) sub.pipe pipes)
 
-  -- 1 where the verdict on the message for the subscription is one of these
+  -- 1 if the verdict on the message for the subscription is one of these
   abbrev pub counted_by : (Verdict → Bool) → Offer item → Subscription → List (PipeOf item) → ℕ
   counted_by test offer sub pipes =
       option_map_or
@@ -246,7 +246,7 @@ module _ {item : Type 0} where
   abbrev pub drops : Offer item → List Subscription → List (PipeOf item) → ℕ
   drops offer subs pipes = verdicts_of is_oldest offer subs pipes
 
-  -- the subscription's pipe and why a message is missed there for the one that it is offered, where
+  -- the subscription's pipe and why a message is missed there for the one that it is offered, if
   -- one is
   abbrev pub misses_by : Offer item → Subscription → List (PipeOf item) → List Miss
   misses_by offer sub pipes =

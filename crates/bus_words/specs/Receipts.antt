@@ -14,7 +14,7 @@ message_receipt pipe number message =
     Message pipe number (message_id message) (message_count message) (length message) (sum message)
     (take HEAD_BYTES message)
 
--- the receipt of the last message of an application's pipe, where the pipe is live and has one
+-- the receipt of the last message of an application's pipe, if the pipe is live and has one
 abbrev pub receipt_in : State → ℕ → ℕ → Option Receipt
 receipt_in s app pipe =
     if owns s.pipes app pipe

@@ -11,7 +11,7 @@ pub record Reads : Type 0 where
   -- the count that the next send of an id gets
   pub next : ℕ → ℕ
 
--- the message as it is delivered: with its id's next count where the send asks for it, else as
+-- the message as it is delivered: with its id's next count if the send asks for it, else as
 -- given
 abbrev pub stamped : Reads → List ℕ → Bool → List ℕ
 stamped reads bytes inc = if inc then with_count bytes (reads.next (message_id bytes)) else bytes

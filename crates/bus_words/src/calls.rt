@@ -93,7 +93,7 @@ pub enum BusCall<'a> {
     TransmitBuffer {
         /// The buffer's number.
         buf: u32,
-        /// All bytes of the buffer; none where the application has no such buffer.
+        /// All bytes of the buffer; none if the application has no such buffer.
         bytes: &'a [u8],
         /// Whether the message gets its id's next sequence count.
         inc: bool,
@@ -163,7 +163,7 @@ pub enum BusCall<'a> {
 }
 
 impl<'a> BusCall<'a> {
-    /// The bytes that the call brings: its name, message, buffer or event's text; none where it
+    /// The bytes that the call brings: its name, message, buffer or event's text; none if it
     /// has none of these.
     pub fn text(&self) -> &'a [u8]
         ensures { result.now ≡ call_text (call_of self.now) }
@@ -176,7 +176,7 @@ impl<'a> BusCall<'a> {
         }
     }
 
-    /// The same call with these bytes in place of its own; itself, where it brings none. Inlined,
+    /// The same call with these bytes in place of its own; itself, if it brings none. Inlined,
     /// it makes the call where that goes.
     #[inline(always)]
     pub(crate) fn with_text<'b>(&self, text: &'b [u8]) -> BusCall<'b>
@@ -273,10 +273,10 @@ pub enum BusAnswer {
     Number(u32),
     /// The name asked for.
     Name(PipeText),
-    /// The number of the message sent and of the pipes that it reached; both 0 where nobody
+    /// The number of the message sent and of the pipes that it reached; both 0 if nobody
     /// subscribes.
     Sent {
-        /// The number of the message, from 1; 0 where nobody subscribes.
+        /// The number of the message, from 1; 0 if nobody subscribes.
         number: u32,
         /// How many pipes it reached.
         reached: u32,

@@ -91,7 +91,7 @@ pub enum Call {
     TransmitBuffer {
         /// The buffer's number.
         buf: u32,
-        /// All bytes of the buffer; none where the application has no such buffer.
+        /// All bytes of the buffer; none if the application has no such buffer.
         bytes: LinkedList<u8>,
         /// Whether the message gets its id's next sequence count.
         inc: bool,

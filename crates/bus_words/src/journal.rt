@@ -50,7 +50,7 @@ impl BusJournal {
     /// An empty journal of the applications 1, 2, 3 and so on that have these budgets.
     ///
     /// # Errors
-    /// `AllocError` where memory runs out.
+    /// `AllocError` if memory runs out.
     pub fn new(alloc: Global, budgets: &[Budget]) -> Result<BusJournal, AllocError>
         requires { AreBudgets budgets.now }
         ensures { IfOk result

@@ -60,7 +60,7 @@ pub fn own_entries_decide()
 
 /// Each pipe stands alone: what its owner receives is what a pipe gives that knows nothing of the
 /// rest of the bus but the accepted sends. A message that an entry gives is the pipe's last, and
-/// the newest that the pipe alone gives. And where two histories are the same to a pipe, under
+/// the newest that the pipe alone gives. And if two histories are the same to a pipe, under
 /// whatever limits, it gives the same messages in both: no other pipe's depth, subscription limits
 /// or overflow matter to it.
 pub fn pipes_stand_alone()
@@ -140,7 +140,7 @@ pub fn bytes_are_of_sends()
 {}
 
 /// An application (they are numbered from 1) that has ended owns no live pipe and has no unsent
-/// buffer. So where all have ended nothing is left: no pipe is live, no number is held, and every
+/// buffer. So if all have ended nothing is left: no pipe is live, no number is held, and every
 /// block of the bus's pool has come back. Does nothing.
 pub fn ends_leave_nothing()
     ensures owners { (limits : Limits) (apps app pipe : ℕ) (history : List Entry) →
@@ -160,7 +160,7 @@ pub fn ends_leave_nothing()
 
 /// The event desk of the bus is the one that its history tells: the events that its applications
 /// sent and those that the bus told of their calls, in the order of the entries and of a send's
-/// destinations, at a desk where nobody was registered before. Does nothing.
+/// destinations, at a desk if nobody was registered before. Does nothing.
 pub fn events_are_told()
     ensures { (limits : Limits) (apps : ℕ) (history : List Entry) → IsLegal limits apps history →
         (state_after limits apps history).events ≡ desk_after limits apps history }

@@ -24,7 +24,7 @@ impl Model for PipeText {
 }
 
 impl PipeText {
-    /// These bytes; None exactly where there is no byte or more than [`NAME_BYTES`].
+    /// These bytes; None if and only if there is no byte or more than [`NAME_BYTES`].
     pub fn try_new(bytes: &[u8]) -> Option<PipeText>
         ensures valid { IsSome result ↔ ((1 ≤ length bytes.now) × (length bytes.now ≤ 19)) }
         ensures value { IfSome result (λ text. text ≡ bytes.now) }

@@ -24,7 +24,7 @@ impl Model for Head {
 }
 
 impl Head {
-    /// These bytes; None exactly where there are more than [`HEAD_BYTES`].
+    /// These bytes; None if and only if there are more than [`HEAD_BYTES`].
     pub fn try_new(bytes: &[u8]) -> Option<Head>
         ensures valid { IsSome result ↔ (length bytes.now ≤ HEAD_BYTES) }
         ensures value { IfSome result (λ head. head ≡ bytes.now) }
@@ -166,7 +166,7 @@ impl ReceiptList {
     /// An empty list with room for so many receipts.
     ///
     /// # Errors
-    /// `AllocError` where memory runs out.
+    /// `AllocError` if memory runs out.
     pub fn new(alloc: Global, room: u32) -> Result<ReceiptList, AllocError>
         ensures { IfOk result (λ list. list ≡ record { receipts = []; room = room }) }
     {

@@ -148,7 +148,7 @@ IsMessage-front bytes sound =
     let known : message_id (take (message_size bytes) bytes) ≡ message_id bytes = ap (λ h. h.id) (header_of-take (message_size bytes) bytes header) in
     IsMessage-of (take (message_size bytes) bytes) (omega (arith, whole)) (said ∙ sym whole) (rw known (front-id bytes sound))
 
--- a reader answers Ok exactly where there is no fault
+-- a reader answers Ok if and only if there is no fault
 pub is_ok-header_or_fault : (why : Option MsgFault) (header : Header) → is_ok (header_or_fault why header) ≡ is_none why
 is_ok-header_or_fault None header = refl
 is_ok-header_or_fault (Some fault) header = refl

@@ -76,7 +76,7 @@ front_fault bytes =
 abbrev pub IsMessage : List ℕ → Type 0
 IsMessage bytes = fault bytes ≡ None
 
--- what a reader answers: the fault where there is one, else the header
+-- what a reader answers: the fault if there is one, else the header
 abbrev pub header_or_fault : Option MsgFault → Header → Result Header MsgFault
 header_or_fault None header = Ok header
 header_or_fault (Some why) header = Err why
@@ -97,7 +97,7 @@ abbrev pub has_function_code : List ℕ → Bool
 has_function_code bytes =
     nat_le 7 (length bytes) && (packet_type bytes == 1 && secondary_header_flag bytes == 1)
 
--- the function code: the low 7 bits of the byte behind the header, where there is one
+-- the function code: the low 7 bits of the byte behind the header, if there is one
 abbrev pub function_code_of : List ℕ → Option ℕ
 function_code_of bytes = if has_function_code bytes then Some (slice_index bytes 6 % 128) else None
 

@@ -8,7 +8,7 @@ use crate::reading::id_of;
 /// The function code of a command, 0 to 127. It is the low 7 bits of the byte behind the primary
 /// header.
 ///
-/// `None` exactly where there are fewer than 7 bytes, the packet is no command, or it has no
+/// `None` if and only if there are fewer than 7 bytes, the packet is no command, or it has no
 /// secondary header.
 pub fn function_code(bytes: &[u8]) -> Option<u8>
     ensures { result ≡ function_code_of bytes.now }
@@ -22,7 +22,7 @@ pub fn function_code(bytes: &[u8]) -> Option<u8>
 
 /// Replaces the function code of a command, 0 to 127. Every other bit stays.
 ///
-/// `false` exactly where [`function_code`] gives `None`; then nothing changes.
+/// `false` if and only if [`function_code`] gives `None`; then nothing changes.
 pub fn set_function_code(bytes: &mut [u8], code: u8) -> bool
     requires { code < 128 }
     ensures told { result ≡ has_function_code bytes.old }

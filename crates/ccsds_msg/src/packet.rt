@@ -20,7 +20,7 @@ pub struct Header {
     pub size: u32,
 }
 
-/// Why bytes are no message. Where several apply, the first in this order is told.
+/// Why bytes are no message. If several apply, the first in this order is told.
 #[derive(Clone, Copy, Debug, PartialEq, Eq)]
 pub enum MsgFault {
     /// There are fewer than 7 bytes, the least that a packet has.

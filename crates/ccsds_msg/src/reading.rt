@@ -12,8 +12,8 @@ const LEAST_SIZE: usize = 7;
 /// Reads the header of bytes that are to be one whole message.
 ///
 /// # Errors
-/// `Short` for fewer than 7 bytes, `Length` where the header says another size than there are
-/// bytes, `BadId` where the message id is not 1 to 0x1FFF; the first of these that applies.
+/// `Short` for fewer than 7 bytes, `Length` if the header says another size than there are
+/// bytes, `BadId` if the message id is not 1 to 0x1FFF; the first of these that applies.
 #[tactic(auto, unfolding(crate::specs::Message::fault))]
 pub fn read_header(bytes: &[u8]) -> Result<Header, MsgFault>
     requires { length bytes.now < 2 ^ 32 }
@@ -36,8 +36,8 @@ pub fn read_header(bytes: &[u8]) -> Result<Header, MsgFault>
 /// Reads the header of a message that the bytes begin with; more bytes may follow it.
 ///
 /// # Errors
-/// `Short` for fewer than 7 bytes, `Length` where the header says a size greater than the number of
-/// bytes, `BadId` where the message id is not 1 to 0x1FFF; the first of these that applies.
+/// `Short` for fewer than 7 bytes, `Length` if the header says a size greater than the number of
+/// bytes, `BadId` if the message id is not 1 to 0x1FFF; the first of these that applies.
 #[tactic(auto, unfolding(crate::specs::Message::front_fault))]
 pub fn front(bytes: &[u8]) -> Result<Header, MsgFault>
     requires { length bytes.now < 2 ^ 32 }

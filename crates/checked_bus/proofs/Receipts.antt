@@ -30,7 +30,7 @@ owns_received number (pipe ∷ pipes) app other =
     by_test true = refl
     by_test false = refl
 
--- where something waits there is a last message afterwards
+-- if something waits there is a last message afterwards
 last_received : (pipes : List Pipe) (number : ℕ) → is_empty pipes number ≡ false → IsSome (last_on (with_pipe after_receive number pipes) number)
 last_received [] number never = absurd (true≢false never)
 last_received (pipe ∷ pipes) number is = by_number (eqb pipe.number number) refl (last_received pipes number) is

@@ -14,7 +14,7 @@ use std::marker::Model;
 /// taken when it is made.
 ///
 /// Contracts see the bus, and the bags from application 1 on. The block of an unsent buffer is
-/// outside of its bag, where its application writes it: the bag has zeros for its bytes.
+/// outside of its bag, if its application writes it: the bag has zeros for its bytes.
 pub struct SbBox<'r> {
     // The bus.
     pub(crate) core: PlainBus<'r>,
@@ -46,7 +46,7 @@ impl<'r> SbBox<'r> {
     /// hold so many unsent buffers. The blocks of the bus's pool are cut from the region.
     ///
     /// # Errors
-    /// `AllocError` where memory runs out.
+    /// `AllocError` if memory runs out.
     pub fn new(
         alloc: Global,
         cfg: &Config,

@@ -24,7 +24,7 @@ impl<'r> SbBox<'r> {
     /// stands in the block behind the bytes that were asked for is never sent.
     ///
     /// # Errors
-    /// Those of [`PlainBus::allocate`]; a [`Refusal`] where the bus wasn't asked.
+    /// Those of [`PlainBus::allocate`]; a [`Refusal`] if the bus wasn't asked.
     pub fn allocate<L: Ledger>(
         &mut self,
         app: u32,
@@ -74,7 +74,7 @@ impl<'r> SbBox<'r> {
     /// accepted, its memory is the bus's again; if not, the application keeps the buffer.
     ///
     /// # Errors
-    /// Those of [`PlainBus::transmit_buffer`]; a [`Refusal`] where the bus wasn't asked.
+    /// Those of [`PlainBus::transmit_buffer`]; a [`Refusal`] if the bus wasn't asked.
     pub fn transmit_buffer<L: Ledger>(
         &mut self,
         app: u32,
@@ -115,7 +115,7 @@ impl<'r> SbBox<'r> {
     /// bus's again; if not, the application keeps the buffer.
     ///
     /// # Errors
-    /// Those of [`PlainBus::release`]; a [`Refusal`] where the bus wasn't asked.
+    /// Those of [`PlainBus::release`]; a [`Refusal`] if the bus wasn't asked.
     pub fn release<L: Ledger>(
         &mut self,
         app: u32,

@@ -20,7 +20,7 @@ impl<'r> SbBox<'r> {
     /// Sends the housekeeping packet, as [`PlainBus::send_housekeeping`].
     ///
     /// # Errors
-    /// Those of [`PlainBus::send_housekeeping`]; a [`Refusal`] where the bus wasn't asked.
+    /// Those of [`PlainBus::send_housekeeping`]; a [`Refusal`] if the bus wasn't asked.
     pub fn send_housekeeping<L: Ledger>(
         &mut self,
         app: u32,

@@ -32,7 +32,7 @@ impl<'r> SbBox<'r> {
     /// [`PlainBus::evs_register`].
     ///
     /// # Errors
-    /// A [`Refusal`] where the bus wasn't asked.
+    /// A [`Refusal`] if the bus wasn't asked.
     pub fn register(&mut self, app: u32, filters: &[(u16, u16)]) -> Result<(), Refusal>
         ensures unasked { result_err result ≡ unasked_register self.old.core app filters.now }
         ensures nothing { OnErr result (self.new ≡ self.old) }
@@ -55,7 +55,7 @@ impl<'r> SbBox<'r> {
     /// Sends an event of a kind 1 to 4, as [`PlainBus::send_event`].
     ///
     /// # Errors
-    /// Those of [`PlainBus::send_event`]; a [`Refusal`] where the bus wasn't asked.
+    /// Those of [`PlainBus::send_event`]; a [`Refusal`] if the bus wasn't asked.
     pub fn send_event(
         &mut self,
         app: u32,
@@ -86,7 +86,7 @@ impl<'r> SbBox<'r> {
     /// Has a filter count from 0 again, as [`PlainBus::reset_filter`].
     ///
     /// # Errors
-    /// Those of [`PlainBus::reset_filter`]; a [`Refusal`] where the bus wasn't asked.
+    /// Those of [`PlainBus::reset_filter`]; a [`Refusal`] if the bus wasn't asked.
     pub fn reset_filter(&mut self, app: u32, id: u16) -> Result<Result<(), EvsStatus>, Refusal>
         ensures unasked { result_err result ≡ unasked self.old.core app (ResetFilter id) }
         ensures nothing { OnErr result (self.new ≡ self.old) }
@@ -101,7 +101,7 @@ impl<'r> SbBox<'r> {
     /// Sets what a full log drops, as [`PlainBus::set_log_mode`].
     ///
     /// # Errors
-    /// A [`Refusal`] where the bus wasn't asked.
+    /// A [`Refusal`] if the bus wasn't asked.
     pub fn set_log_mode(&mut self, app: u32, mode: u8) -> Result<(), Refusal>
         ensures unasked { result_err result ≡ unasked_mode self.old.core app mode }
         ensures nothing { OnErr result (self.new ≡ self.old) }
@@ -120,7 +120,7 @@ impl<'r> SbBox<'r> {
     /// Empties the log, as [`PlainBus::clear_log`].
     ///
     /// # Errors
-    /// A [`Refusal`] where the bus wasn't asked.
+    /// A [`Refusal`] if the bus wasn't asked.
     pub fn clear_log(&mut self, app: u32) -> Result<(), Refusal>
         ensures unasked { result_err result ≡ unasked self.old.core app ClearLog }
         ensures nothing { OnErr result (self.new ≡ self.old) }

@@ -17,7 +17,7 @@ impl<'r> SbBox<'r> {
     /// Whether the application may end now.
     ///
     /// # Errors
-    /// A [`Refusal`] where it may not.
+    /// A [`Refusal`] if it may not.
     pub fn may_end(&self, app: u32) -> Result<(), Refusal>
         ensures { result_err result ≡ unasked_end self.now app }
     {
@@ -28,7 +28,7 @@ impl<'r> SbBox<'r> {
     /// The application's last call, as [`PlainBus::end`]. It has no buffer out.
     ///
     /// # Errors
-    /// A [`Refusal`] where the bus wasn't asked.
+    /// A [`Refusal`] if the bus wasn't asked.
     pub fn end<L: Ledger>(&mut self, app: u32, blank: Blank) -> Result<(), Refusal>
         requires name { blank.name ≡ L.name }
         requires parts { blank.parts ≡ L.parts }

@@ -23,7 +23,7 @@ impl<'r> SbBox<'r> {
     /// Sends a message, as [`PlainBus::transmit`].
     ///
     /// # Errors
-    /// Those of [`PlainBus::transmit`]; a [`Refusal`] where the bus wasn't asked.
+    /// Those of [`PlainBus::transmit`]; a [`Refusal`] if the bus wasn't asked.
     pub fn transmit<L: Ledger>(
         &mut self,
         app: u32,
@@ -55,7 +55,7 @@ impl<'r> SbBox<'r> {
     /// there until the application receives on the pipe again, deletes it, or ends.
     ///
     /// # Errors
-    /// Those of [`PlainBus::receive`]; a [`Refusal`] where the bus wasn't asked.
+    /// Those of [`PlainBus::receive`]; a [`Refusal`] if the bus wasn't asked.
     pub fn receive<L: Ledger>(
         &mut self,
         app: u32,
@@ -84,9 +84,9 @@ impl<'r> SbBox<'r> {
         Ok(bag.receive(&mut self.core, caller, pipe, &mut steps))
     }
 
-    /// The message that the application received last on a pipe of its own. Its bytes stay where
-    /// they lie until the application receives on the pipe again, deletes it, or ends. None where
-    /// it received none, where the pipe isn't live or is another application's, and where the bus
+    /// The message that the application received last on a pipe of its own. Its bytes stay if
+    /// they lie until the application receives on the pipe again, deletes it, or ends. None if
+    /// it received none, if the pipe isn't live or is another application's, and if the bus
     /// serves no such application.
     pub fn message(&self, app: u32, pipe: u32) -> Option<&[u8]>
         ensures known { is_application self.now.core app ≡ true →

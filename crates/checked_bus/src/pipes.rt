@@ -21,7 +21,7 @@ impl<'r> SbBox<'r> {
     /// Creates a pipe, as [`PlainBus::create_pipe`].
     ///
     /// # Errors
-    /// Those of [`PlainBus::create_pipe`]; a [`Refusal`] where the bus wasn't asked.
+    /// Those of [`PlainBus::create_pipe`]; a [`Refusal`] if the bus wasn't asked.
     pub fn create_pipe(
         &mut self,
         app: u32,
@@ -43,7 +43,7 @@ impl<'r> SbBox<'r> {
     /// let go.
     ///
     /// # Errors
-    /// Those of [`PlainBus::delete_pipe`]; a [`Refusal`] where the bus wasn't asked.
+    /// Those of [`PlainBus::delete_pipe`]; a [`Refusal`] if the bus wasn't asked.
     pub fn delete_pipe<L: Ledger>(
         &mut self,
         app: u32,
@@ -70,7 +70,7 @@ impl<'r> SbBox<'r> {
     /// Sets the option bits of a pipe, as [`PlainBus::set_opts`].
     ///
     /// # Errors
-    /// Those of [`PlainBus::set_opts`]; a [`Refusal`] where the bus wasn't asked.
+    /// Those of [`PlainBus::set_opts`]; a [`Refusal`] if the bus wasn't asked.
     pub fn set_opts(
         &mut self,
         app: u32,

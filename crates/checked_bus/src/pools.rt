@@ -33,7 +33,7 @@ impl<'r> SbBox<'r> {
     /// Creates a memory pool, as [`PlainBus::pool_create`].
     ///
     /// # Errors
-    /// Those of [`PlainBus::pool_create`]; a [`Refusal`] where the bus wasn't asked.
+    /// Those of [`PlainBus::pool_create`]; a [`Refusal`] if the bus wasn't asked.
     pub fn pool_create(&mut self, app: u32, bytes: u32) -> Result<Result<u32, EsStatus>, Refusal>
         ensures unasked { result_err result ≡ unasked self.old.core app (PoolCreate bytes) }
         ensures nothing { OnErr result (self.new ≡ self.old) }
@@ -48,7 +48,7 @@ impl<'r> SbBox<'r> {
     /// Gives the application a grant of a pool's block, as [`PlainBus::pool_get`].
     ///
     /// # Errors
-    /// Those of [`PlainBus::pool_get`]; a [`Refusal`] where the bus wasn't asked.
+    /// Those of [`PlainBus::pool_get`]; a [`Refusal`] if the bus wasn't asked.
     pub fn pool_get<L: Ledger>(
         &mut self,
         app: u32,
@@ -80,7 +80,7 @@ impl<'r> SbBox<'r> {
     /// Gives a grant back, as [`PlainBus::pool_put`].
     ///
     /// # Errors
-    /// Those of [`PlainBus::pool_put`]; a [`Refusal`] where the bus wasn't asked.
+    /// Those of [`PlainBus::pool_put`]; a [`Refusal`] if the bus wasn't asked.
     pub fn pool_put<L: Ledger>(
         &mut self,
         app: u32,
@@ -126,7 +126,7 @@ impl<'r> SbBox<'r> {
     /// The figures of a block size of a pool, by its place, from 0; None past the last.
     ///
     /// # Errors
-    /// `NoPool` where no pool of this number was created.
+    /// `NoPool` if no pool of this number was created.
     pub fn pool_class(&self, pool: u32, place: u32) -> Result<Option<ClassStats>, EsStatus>
         ensures refused { result_err result ≡
             (if is_pool self.now.core.whole.bus.pools pool then None else Some EsStatus.NoPool) }

@@ -29,7 +29,7 @@ impl<'r> SbBox<'r> {
     /// global.
     ///
     /// # Errors
-    /// Those of [`PlainBus::subscribe`]; a [`Refusal`] where the bus wasn't asked.
+    /// Those of [`PlainBus::subscribe`]; a [`Refusal`] if the bus wasn't asked.
     pub fn subscribe<L: Ledger>(
         &mut self,
         app: u32,
@@ -70,7 +70,7 @@ impl<'r> SbBox<'r> {
     /// Ends a subscription, as [`PlainBus::unsubscribe`].
     ///
     /// # Errors
-    /// Those of [`PlainBus::unsubscribe`]; a [`Refusal`] where the bus wasn't asked.
+    /// Those of [`PlainBus::unsubscribe`]; a [`Refusal`] if the bus wasn't asked.
     pub fn unsubscribe<L: Ledger>(
         &mut self,
         app: u32,

@@ -29,7 +29,7 @@ impl<'r> SbBox<'r> {
     /// Receives a message or waits for one, as [`PlainBus::pend`].
     ///
     /// # Errors
-    /// Those of [`PlainBus::pend`]; a [`Refusal`] where the bus wasn't asked.
+    /// Those of [`PlainBus::pend`]; a [`Refusal`] if the bus wasn't asked.
     pub fn pend<L: Ledger>(
         &mut self,
         app: u32,
@@ -57,7 +57,7 @@ impl<'r> SbBox<'r> {
     /// [`PlainBus::look`].
     ///
     /// # Errors
-    /// A [`Refusal`] where the bus wasn't asked.
+    /// A [`Refusal`] if the bus wasn't asked.
     pub fn look(&mut self, app: u32) -> Result<LookAnswer, Refusal>
         ensures unasked { result_err result ≡ unasked_look self.old.core app }
         ensures nothing { OnErr result (self.new ≡ self.old) }
@@ -76,7 +76,7 @@ impl<'r> SbBox<'r> {
         Ok(LookAnswer { pipe, answer })
     }
 
-    // The pipe that the application waits on; 0 where it doesn't wait.
+    // The pipe that the application waits on; 0 if it doesn't wait.
     fn pipe_waited_on(&self, app: u32) -> Result<u32, Refusal>
         ensures why { result_err result ≡
             (if is_application self.now.core app then None else Some Refusal.NoApplication) }

@@ -22,7 +22,7 @@ kept-bags old new bags app call answer leaves keeps acts =
       own = λ other first known. acts.bags other (bag_in bags other) (λ changes. absurd (true≢false (sym changes ∙ leaves))) (keeps.own other first (omega (arith, known, many)));
     }
 
--- one that makes a version, or changes nothing where no number is left for it
+-- one that makes a version, or changes nothing if no number is left for it
 pub kept-version : (old new : Plain) (bags : List HeldViews) (app : ℕ) (call : Call) (handle : ℕ) (answer : TblAnswer) → changes_bag call ≡ false → Keeps (boxed old bags) →
     (HasNextVersion old.state handle → Acts old new app call answer) → ((HasNextVersion old.state handle → ⊥) → new ≡ old) → Keeps (boxed new bags)
 kept-version old new bags app call handle answer leaves keeps does spent = by_version (next-or-none old.state handle)

@@ -87,7 +87,7 @@ before_more true true false e more is = is
 before_more true false o e more is = is
 before_more false w o e more is = is
 
--- and where none comes, the others do
+-- and if none comes, the others do
 pub then_more : (a w o : Bool) (more : Option Refusal) → None ≡ chain a w o None → more ≡ chain a w o more
 then_more true true true more is = refl
 then_more true true false more never = absurd (cc (never))

@@ -45,7 +45,7 @@ impl<'r> TblBox<'r> {
     /// tables are cut from `region`, the four working buffers from `work`.
     ///
     /// # Errors
-    /// `AllocError` where memory runs out.
+    /// `AllocError` if memory runs out.
     pub fn new(
         alloc: Global,
         cfg: &Config,

@@ -21,7 +21,7 @@ impl<'r> TblBox<'r> {
     /// Registers a table, with at most 8 rules, as [`PlainTables::register`].
     ///
     /// # Errors
-    /// Those of [`PlainTables::register`]; a [`Refusal`] where the tables weren't asked.
+    /// Those of [`PlainTables::register`]; a [`Refusal`] if the tables weren't asked.
     pub fn register<L: Ledger>(
         &mut self,
         app: u32,
@@ -55,7 +55,7 @@ impl<'r> TblBox<'r> {
     /// Gives the application a handle, as [`PlainTables::share`].
     ///
     /// # Errors
-    /// Those of [`PlainTables::share`]; a [`Refusal`] where the tables weren't asked.
+    /// Those of [`PlainTables::share`]; a [`Refusal`] if the tables weren't asked.
     pub fn share(&mut self, app: u32, name: &[u8]) -> Result<Result<u32, TblStatus>, Refusal>
         ensures unasked { result_err result ≡ unasked self.old.core app (Share name.now) }
         ensures nothing { OnErr result (self.new ≡ self.old) }
@@ -70,7 +70,7 @@ impl<'r> TblBox<'r> {
     /// Gives a handle back, as [`PlainTables::unregister`].
     ///
     /// # Errors
-    /// Those of [`PlainTables::unregister`]; a [`Refusal`] where the tables weren't asked.
+    /// Those of [`PlainTables::unregister`]; a [`Refusal`] if the tables weren't asked.
     pub fn unregister<L: Ledger>(
         &mut self,
         app: u32,
@@ -99,7 +99,7 @@ impl<'r> TblBox<'r> {
     /// The figures of a table, as [`PlainTables::status`].
     ///
     /// # Errors
-    /// Those of [`PlainTables::status`]; a [`Refusal`] where the tables weren't asked.
+    /// Those of [`PlainTables::status`]; a [`Refusal`] if the tables weren't asked.
     pub fn status(&self, app: u32, handle: u32) -> Result<Result<PlainState, TblStatus>, Refusal>
         ensures unasked { result_err result ≡ unasked self.now.core app (Status handle) }
         ensures does { IfOk result
@@ -113,7 +113,7 @@ impl<'r> TblBox<'r> {
     /// What a table is, as [`PlainTables::shape`].
     ///
     /// # Errors
-    /// Those of [`PlainTables::shape`]; a [`Refusal`] where the tables weren't asked.
+    /// Those of [`PlainTables::shape`]; a [`Refusal`] if the tables weren't asked.
     pub fn shape(&self, app: u32, handle: u32) -> Result<Result<PlainShape, TblStatus>, Refusal>
         ensures unasked { result_err result ≡ unasked self.now.core app (Status handle) }
         ensures refused { IfOk result (λ answer. result_err answer ≡
@@ -129,7 +129,7 @@ impl<'r> TblBox<'r> {
     /// The application's last call, as [`PlainTables::end`].
     ///
     /// # Errors
-    /// A [`Refusal`] where the tables weren't asked.
+    /// A [`Refusal`] if the tables weren't asked.
     pub fn end<L: Ledger>(&mut self, app: u32, blank: Blank) -> Result<(), Refusal>
         requires name { blank.name ≡ L.name }
         requires parts { blank.parts ≡ L.parts }

@@ -18,7 +18,7 @@ impl<'r> TblBox<'r> {
     /// shows it.
     ///
     /// # Errors
-    /// Those of [`PlainTables::get_address`]; a [`Refusal`] where the tables weren't asked.
+    /// Those of [`PlainTables::get_address`]; a [`Refusal`] if the tables weren't asked.
     pub fn get_address(
         &mut self,
         app: u32,
@@ -43,7 +43,7 @@ impl<'r> TblBox<'r> {
     /// Lets go of what a handle holds, as [`PlainTables::release_address`].
     ///
     /// # Errors
-    /// Those of [`PlainTables::release_address`]; a [`Refusal`] where the tables weren't asked.
+    /// Those of [`PlainTables::release_address`]; a [`Refusal`] if the tables weren't asked.
     pub fn release_address(
         &mut self,
         app: u32,
@@ -66,7 +66,7 @@ impl<'r> TblBox<'r> {
 
     /// What a handle of the application's holds. Its bytes stay where they lie until the
     /// application asks for the address again, releases it, gives the handle back, or ends. None
-    /// where the handle holds nothing, isn't live or is another application's, and where the tables
+    /// if the handle holds nothing, isn't live or is another application's, and if the tables
     /// serve no such application.
     pub fn held(&self, app: u32, handle: u32) -> Option<&[u8]>
         ensures known { is_application self.now.core app ≡ true →

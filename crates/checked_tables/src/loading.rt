@@ -18,7 +18,7 @@ impl<'r> TblBox<'r> {
     /// Stages a value, as [`PlainTables::stage`].
     ///
     /// # Errors
-    /// Those of [`PlainTables::stage`]; a [`Refusal`] where the tables weren't asked.
+    /// Those of [`PlainTables::stage`]; a [`Refusal`] if the tables weren't asked.
     pub fn stage(
         &mut self,
         app: u32,
@@ -41,7 +41,7 @@ impl<'r> TblBox<'r> {
     /// Tries the staged value by the table's rules, as [`PlainTables::validate`].
     ///
     /// # Errors
-    /// Those of [`PlainTables::validate`]; a [`Refusal`] where the tables weren't asked.
+    /// Those of [`PlainTables::validate`]; a [`Refusal`] if the tables weren't asked.
     pub fn validate(&mut self, app: u32, handle: u32) -> Result<Result<(), TblStatus>, Refusal>
         ensures unasked { result_err result ≡ unasked self.old.core app (Validate handle) }
         ensures nothing { OnErr result (self.new ≡ self.old) }
@@ -56,7 +56,7 @@ impl<'r> TblBox<'r> {
     /// Makes the staged value the table's, as [`PlainTables::update`].
     ///
     /// # Errors
-    /// Those of [`PlainTables::update`]; a [`Refusal`] where the tables weren't asked.
+    /// Those of [`PlainTables::update`]; a [`Refusal`] if the tables weren't asked.
     pub fn update(&mut self, app: u32, handle: u32) -> Result<Result<(), TblStatus>, Refusal>
         ensures unasked { result_err result ≡ unasked self.old.core app (Update handle) }
         ensures nothing { OnErr result (self.new ≡ self.old) }
@@ -78,7 +78,7 @@ impl<'r> TblBox<'r> {
     /// The staged value, as [`PlainTables::staged_bytes`]; it is read before the next call.
     ///
     /// # Errors
-    /// Those of [`PlainTables::staged_bytes`]; a [`Refusal`] where the tables weren't asked.
+    /// Those of [`PlainTables::staged_bytes`]; a [`Refusal`] if the tables weren't asked.
     pub fn staged_bytes(&self, app: u32, handle: u32) -> Result<Result<&[u8], TblStatus>, Refusal>
         ensures unasked { result_err result ≡ unasked self.now.core app (Abort handle) }
         ensures refused { IfOk result (λ answer. result_err answer ≡
@@ -94,7 +94,7 @@ impl<'r> TblBox<'r> {
     /// Drops the staged value, as [`PlainTables::abort_load`].
     ///
     /// # Errors
-    /// Those of [`PlainTables::abort_load`]; a [`Refusal`] where the tables weren't asked.
+    /// Those of [`PlainTables::abort_load`]; a [`Refusal`] if the tables weren't asked.
     pub fn abort_load(&mut self, app: u32, handle: u32) -> Result<Result<(), TblStatus>, Refusal>
         ensures unasked { result_err result ≡ unasked self.old.core app (Abort handle) }
         ensures nothing { OnErr result (self.new ≡ self.old) }
@@ -109,7 +109,7 @@ impl<'r> TblBox<'r> {
     /// Stages, validates and updates in one, as [`PlainTables::load`].
     ///
     /// # Errors
-    /// Those of [`PlainTables::load`]; a [`Refusal`] where the tables weren't asked.
+    /// Those of [`PlainTables::load`]; a [`Refusal`] if the tables weren't asked.
     pub fn load(
         &mut self,
         app: u32,

@@ -17,7 +17,7 @@ use Rattle.core_port.proofs.ApplicationCounts.{none_once, one_more, room_for}
 use Rattle.core_port.proofs.Histories.{own-entries_in, entries_in-append, notes_in-append, called_in, entries_again, core_again}
 use mathlib.Core.List.{IsPrefix}
 
--- where nothing was entered there is no note
+-- if nothing was entered there is no note
 no_note : (ns : List Note) → length ns ≡ 0 → ns ≡ []
 no_note [] is = refl
 no_note (n ∷ ns) is = absurd (omega (arith, is))

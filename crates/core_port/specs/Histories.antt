@@ -6,7 +6,7 @@ use Rattle.lend_block.specs.declared.note.Note.{Note}
 use Rattle.core_port.specs.Words.{Fixed, Words}
 use Rattle.core_port.specs.declared.history.NotedCall.{NotedCall}
 
--- what never changes; where nothing is known of it, the usual limits and no budgets
+-- what never changes; if nothing is known of it, the usual limits and no budgets
 abbrev pub the_fixed : Option Fixed → Fixed
 the_fixed None = record { limits = usual_limits; budgets = [] }
 the_fixed (Some fixed) = fixed

@@ -35,7 +35,7 @@ module _ {S N C A L : Type 0} (w : Words S N C A L) where
     pub lock : new.lock ≡ old.lock
     pub app : new.app ≡ old.app
 
-  -- The same for a look that found this, and made these entries: one, or none where it was in
+  -- The same for a look that found this, and made these entries: one, or none if it was in
   -- vain.
   pub record AnswersLook (old new : PortView S N) (finds : S → S → Type 0) (made : List N) :
       Type 0 where

@@ -51,7 +51,7 @@ impl<K: Kind, C: ServedCore<K> + Drop> BoxedCore<K, C> {
     /// This core in a box.
     ///
     /// # Errors
-    /// Where memory runs out.
+    /// If memory runs out.
     pub(crate) fn new(alloc: Global, core: C) -> Result<BoxedCore<K, C>, AllocError>
         ensures { IfOk result (λ g. g ≡ record { core = C.seen core; asleep = false }) }
     {

@@ -2,7 +2,7 @@
 ghost use Rattle.core_port.specs.Words.{Words, Laws};
 
 /// The types and words of a core with a history, and their laws, which are all that a port knows of
-/// it. They name no lifetime, even where the core borrows: what a port has seen of a history
+/// it. They name no lifetime, even if the core borrows: what a port has seen of a history
 /// outlives the borrow.
 pub trait Kind {
     /// The core, as contracts see it. No value of it is made.

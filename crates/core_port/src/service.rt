@@ -103,7 +103,7 @@ impl<K: Kind, C: ServedCore<K> + Drop> Service<K, C> {
     /// and its main part.
     ///
     /// # Errors
-    /// Where memory runs out.
+    /// If memory runs out.
     pub fn new(
         alloc: Global,
         core: C,

@@ -1,4 +1,4 @@
--- A class whose blocks are large enough, where those of the class before aren't, is the class that is looked for.
+-- A class whose blocks are large enough, if those of the class before aren't, is the class that is looked for.
 use Rattle.std.proofs.Common.{◌≡◌, ℕ, ◌+◌, ◌<◌, ◌≤◌, zero, suc, true, false, cond, List, [], ◌∷◌, length, get_or, leb, Option, Some, refl, ap, ◌∙◌, arith}
 use Rattle.std.specs.List.{position_from}
 use Rattle.std.proofs.lemmas.Bool.Decides.{nat_tests}

@@ -1,4 +1,4 @@
--- What a pool keeps beside its blocks stays true where a block is drawn, cut or given back.
+-- What a pool keeps beside its blocks stays true if a block is drawn, cut or given back.
 use Rattle.std.proofs.Common.{◌≡◌, ℕ, ◌+◌, ◌-◌, ◌*◌, ◌<◌, ◌≤◌, ◌&&◌, ◌⊎◌, inl, inr, zero, suc, Bool, true, false, not, cond, eqb, leb, List, [], ◌∷◌, ◌++◌, length, get_or, set, drop, sum_by, refl, ap, sym, subst, ◌∙◌, arith}
 use Rattle.std.proofs.lemmas.Bool.{cases_eq, cases_lt}
 use Rattle.std.proofs.lemmas.Bool.Decides.{nat_tests}
@@ -14,7 +14,7 @@ use Rattle.es_pool.proofs.Totals.{block, made-split, sum-change, in_use-le-used,
 use Rattle.es_pool.proofs.Marks.{free_from_mark, mark_out, mark_free, mark-set_other, mark-push}
 use Rattle.es_pool.proofs.Sizes.{room_left, size_least}
 
--- the classes of the blocks stay in range where one is set
+-- the classes of the blocks stay in range if one is set
 pub classes-set : (blocks : List CutBlock) (number class sizes : ℕ) (out : Bool) → class < sizes → ((n : ℕ) → n < length blocks → (get_or blocks n (block 0 true)).class < sizes) → (n : ℕ) → n < length (set blocks number (block class out)) → (get_or (set blocks number (block class out)) n (block 0 true)).class < sizes
 classes-set blocks number class sizes out within all n h = by_cases (cases_eq n number)
   where
@@ -96,7 +96,7 @@ times_pushed free class number k n = by_cases (cases_eq k class)
     by_cases (inr other) =
         subst (λ b. times_in (cond b (number ∷ listed_at free class) (listed_at free k)) n ≡ times_in (listed_at free k) n + cond (b && eqb number n) 1 0) (sym (false_from_other k class other)) (omega arith)
 
--- the marks where a free block goes out, and where one comes back
+-- the marks where a free block goes out, and if one comes back
 marks_out : (blocks : List CutBlock) (class number k n : ℕ) → number < length blocks → get_or blocks number (block 0 true) ≡ block class false → free_mark (set blocks number (block class true)) k n + one_at class number k n ≡ free_mark blocks k n
 marks_out blocks class number k n h e = by_cases (cases_eq n number)
   where

@@ -1,4 +1,4 @@
--- The account of a pool follows its draws and returns, and there is room in one where there is room in the other.
+-- The account of a pool follows its draws and returns, and there is room in one if there is room in the other.
 use Rattle.std.proofs.Common.{◌≡◌, ℕ, ◌+◌, ◌-◌, ◌*◌, ◌<◌, ◌≤◌, ◌&&◌, ◌⊎◌, inl, inr, suc, max, Bool, true, false, not, cond, eqb, leb, Option, Some, None, List, [], ◌∷◌, ◌++◌, length, get_or, set, replicate, sum_by, MatchBool, refl, ap, sym, subst, ◌∙◌, arith}
 use Rattle.std.proofs.lemmas.Bool.{cases_eq}
 use Rattle.std.proofs.lemmas.List.{length-set, length-replicate, get_or-replicate, get_or_default, get_or-set_same, get_or-set_other}
@@ -58,7 +58,7 @@ cost_is_used (b ∷ blocks) made sizes e counts inside =
         get_or-set_other made b.class class (made_in blocks b.class) 0 other
         ∙ (counts class hc ∙ (more class ∙ (ap (λ t. cond t 1 0 + made_in blocks class) (false_from_other b.class class (λ s. other (sym s))) ∙ none_more (made_in blocks class))))
 
--- there is room for a class in one where there is in the other
+-- there is room for a class in one if there is in the other
 class_alike : (pool : PoolState) (account : Account) (class : ℕ) → IsAccountOf pool account → class < length pool.sizes → fits_class pool class 1 ≡ has_room_for account class 1
 class_alike pool account class a h =
     let cost : cost_of account.made account.sizes ≡ used_by pool.sizes pool.blocks = ap (cost_of account.made) a.sizes ∙ cost_is_used pool.blocks account.made pool.sizes a.made_all a.made a.classes in

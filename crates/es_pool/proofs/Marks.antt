@@ -52,7 +52,7 @@ mark_free blocks class here number e = ap (λ b. cond (is_free_in class b) 1 0) 
     and_true true = refl
     and_true false = refl
 
--- another block's mark stays where one block is set
+-- another block's mark stays if one block is set
 pub mark-set_other : (blocks : List CutBlock) (class number other : ℕ) (b : CutBlock) → number ≢ other → free_mark (set blocks other b) class number ≡ free_mark blocks class number
 mark-set_other blocks class number other b ne = ap (λ x. cond (is_free_in class x) 1 0) (get_or-set_other blocks other number b (block 0 true) ne)
 

@@ -177,7 +177,7 @@ places_by_8 pool number whole = with_overhead (used_by pool.sizes (take number p
 
 -- Places that stay. --
 
--- blocks behind others leave them where they are
+-- blocks behind others leave them if they are
 before_push : (sizes : List ℕ) (blocks : List CutBlock) (b : CutBlock) (n : ℕ) → n ≤ length blocks → used_by sizes (take n (blocks ++ b ∷ [])) ≡ used_by sizes (take n blocks)
 before_push sizes blocks b n within = ap (used_by sizes) (take-append-le n blocks (b ∷ []) within)
 
@@ -204,7 +204,7 @@ places_stay_back pool number at = ap (λ n. n + overhead) (used_before-set pool.
 
 -- The list of places. --
 
--- it stays where a block is set in its own class
+-- it stays if a block is set in its own class
 pub offsets_set : (pool : PoolState) (offsets : List ℕ) (number class requests : ℕ) (out : Bool) → (get_or pool.blocks number (block 0 true)).class ≡ class → AreOffsetsOf pool offsets →
     AreOffsetsOf (record pool { blocks = set pool.blocks number (block class out); requests = requests }) offsets
 offsets_set pool offsets number class requests out is are = record {
@@ -214,7 +214,7 @@ offsets_set pool offsets number class requests out is are = record {
       ∙ ap (λ n. n + overhead) (sym (used_before-set pool.sizes pool.blocks number at class out is));
 }
 
--- it gets the place behind all blocks where one is cut
+-- it gets the place behind all blocks if one is cut
 pub offsets_push : (pool : PoolState) (offsets after : List ℕ) (blocks : List CutBlock) (class rest requests place : ℕ) → used_by pool.sizes pool.blocks + rest ≡ pool.bytes → AreOffsetsOf pool offsets →
     blocks ≡ pool.blocks ++ block class true ∷ [] → after ≡ offsets ++ place ∷ [] → place ≡ pool.bytes - rest + overhead →
     AreOffsetsOf (record pool { blocks = blocks; requests = requests }) after

@@ -53,7 +53,7 @@ size_least sizes class e h = first_least sizes class (part (leb 1 (length sizes)
 pub product_small : (a b : ℕ) → a < 2 ^ 32 → b < 2 ^ 32 → a * b < 2 ^ 64
 product_small a b ha hb = mul-lt a b (2 ^ 32) (2 ^ 32) ha hb
 
--- what has to be cut fits into the rest exactly where it fits beside what was cut
+-- what has to be cut fits into the rest if and only if it fits beside what was cut
 pub fits_rest : (used rest bytes cost out free made count : ℕ) → used + rest ≡ bytes → made ≡ out + free → leb (cost * (count - free)) rest ≡ leb (used + cost * (out + count - made)) bytes
 fits_rest used rest bytes cost out free made count e_bytes e_made =
     moved (cost * (count - free)) (cost * (out + count - made)) (ap (λ n. cost * n) same)
@@ -64,7 +64,7 @@ fits_rest used rest bytes cost out free made count e_bytes e_made =
     moved : (x y : ℕ) → x ≡ y → leb x rest ≡ leb (used + y) bytes
     moved x y e = grind (arith, nat_tests)
 
--- where as many are free nothing has to be cut
+-- if as many are free nothing has to be cut
 pub fits_free : (used rest bytes cost out free made count : ℕ) → used + rest ≡ bytes → made ≡ out + free → count ≤ free → leb (used + cost * (out + count - made)) bytes ≡ true
 fits_free used rest bytes cost out free made count e_bytes e_made enough =
     let none : out + count - made ≡ 0 = omega (arith, e_made, enough) in

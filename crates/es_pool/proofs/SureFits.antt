@@ -1,4 +1,4 @@
--- Where the rest holds a block of any size, a block fits for what the last size holds.
+-- If the rest holds a block of any size, a block fits for what the last size holds.
 use Rattle.std.proofs.Common.{◌≡◌, ℕ, ◌+◌, ◌*◌, ◌-◌, ◌<◌, ◌≤◌, zero, suc, Bool, true, false, cond, List, [], ◌∷◌, length, get_or, leb, Option, Some, refl, ap, sym, ◌∙◌, arith}
 use Rattle.std.specs.List.{position_from}
 use Rattle.std.proofs.lemmas.Bool.Decides.{nat_tests}

@@ -10,7 +10,7 @@ use Rattle.es_pool.specs.Pool.{PoolState, made_in, free_in, used_by, in_use_by}
 abbrev pub is_free_in : ℕ → CutBlock → Bool
 is_free_in class block = (block.class == class) && not block.out
 
--- how often a block stands in the list of the free ones of a class: once where it is one of them,
+-- how often a block stands in the list of the free ones of a class: once if it is one of them,
 -- else never
 abbrev pub free_mark : List CutBlock → ℕ → ℕ → ℕ
 free_mark blocks class number =

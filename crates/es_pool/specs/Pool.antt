@@ -67,7 +67,7 @@ is_out pool number = (slice_index_or pool.blocks number (record { class = 0; out
 abbrev pub is_free : PoolState → ℕ → Bool
 is_free pool number = not (slice_index_or pool.blocks number (record { class = 0; out = true })).out
 
--- a draw of a class: a free block of the class goes out; where none is free, the next block is cut
+-- a draw of a class: a free block of the class goes out; if none is free, the next block is cut
 pub data Draws (old new : PoolState) (class number : ℕ) : Type 0 where
   Reuses :
       number < length old.blocks

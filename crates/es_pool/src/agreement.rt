@@ -14,7 +14,7 @@ use step_count::{Ledger, Steps};
 /// A pool and a plain pool of `bytes` bytes with these block sizes, of which nothing is cut.
 ///
 /// # Errors
-/// `AllocError` where memory runs out.
+/// `AllocError` if memory runs out.
 pub fn pool_and_plain(
     alloc: Global,
     bytes: u32,
@@ -38,7 +38,7 @@ pub fn pool_and_plain(
 }
 
 /// Makes the calls on both pools, in order, and answers whether the two gave the same answer and
-/// then showed the same figures at each of them. They always do, where a return that the pool
+/// then showed the same figures at each of them. They always do, if a return that the pool
 /// refuses is counted in both: whatever the calls, the pool is led as its own contract says, the
 /// plain pool's account moves by its own calls, a return with the class that its block has, and it
 /// stays the account of the pool. At most 8 steps a call.

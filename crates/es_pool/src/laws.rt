@@ -5,7 +5,7 @@ ghost use Rattle.es_pool.specs.Places.{offset_at, has_byte};
 ghost use Rattle.es_pool.specs.Pool.{PoolState, IsWhole, DrawsFor, fits, given_back, size_at};
 
 /// A draw takes one from what fits: after it so many blocks of its size fit if and only if one more
-/// fitted before. So where there was room for two blocks, a second one is given once the first was.
+/// fitted before. So if there was room for two blocks, a second one is given once the first was.
 /// The same holds of an account; and a draw of some blocks and one more at once is a draw of one
 /// behind them.
 pub fn draws_take_room_one_by_one()

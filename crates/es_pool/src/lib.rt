@@ -2,10 +2,11 @@
 //! still be drawn.
 //!
 //! A pool has block sizes. A request takes the smallest size that is large enough: a free block of
-//! that size where there is one, otherwise one cut from the rest, which costs 16 bytes more than
-//! its size. A returned block is free in its own size (cFE Executive Services, memory pools). Every
-//! answer is that of an account on paper, and a draw or a return takes at most 8 steps, however
-//! many blocks are out. By the code, no call but `new` takes memory.
+//! that size if there is one, otherwise one cut from the rest, which costs 16 bytes more than its
+//! size. A returned block is free in its own size (cFE Executive Services, memory pools), in
+//! segregated free lists (Wilson and others, "Dynamic Storage Allocation", 1995). Every answer is
+//! that of an account on paper, and a draw or a return takes at most 8 steps, however many blocks
+//! are out. By the code, no call but `new` takes memory.
 //!
 //! ```
 //! /// Draws a block, gives it back and draws once more.

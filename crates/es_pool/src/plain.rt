@@ -56,7 +56,7 @@ impl PlainPool {
     /// A pool of `bytes` bytes with these block sizes, of which nothing was made.
     ///
     /// # Errors
-    /// `AllocError` where memory runs out.
+    /// `AllocError` if memory runs out.
     pub fn new(alloc: Global, bytes: u32, sizes: BlockSizes) -> Result<PlainPool, AllocError>
         ensures { IfOk result
             (λ pool. pool ≡

@@ -42,7 +42,7 @@ pub struct Pool {
     recent: u32,
     // The blocks cut, by number. There is room for all that can be cut.
     blocks: Vec<CutBlock>,
-    // Where each block begins, in bytes from the pool's first on, by the block's number. There is
+    // If each block begins, in bytes from the pool's first on, by the block's number. There is
     // room for all that can be cut.
     offsets: Vec<u32>,
     // How many blocks of each class were cut.
@@ -88,7 +88,7 @@ impl Pool {
     /// its memory is taken here.
     ///
     /// # Errors
-    /// `AllocError` where memory runs out.
+    /// `AllocError` if memory runs out.
     pub fn new(alloc: Global, bytes: u32, sizes: BlockSizes) -> Result<Pool, AllocError>
         ensures { IfOk result
             (λ pool. pool ≡
@@ -148,7 +148,7 @@ impl Pool {
     }
 
     /// Draws a block for `size` bytes: of the smallest block size that is large enough, a free one
-    /// where there is one, otherwise one cut from the rest. A larger free block is never taken in
+    /// if there is one, otherwise one cut from the rest. A larger free block is never taken in
     /// its place. At most 8 steps.
     ///
     /// # Errors

@@ -21,7 +21,7 @@ const APPS: usize = MAX_APPS as usize;
 /// By the code, no call but [`EventDesk::new`] takes memory, and a call looks at the filters of its
 /// own application alone, at most [`fsw_base::MAX_FILTERS`].
 pub struct EventDesk {
-    // By application, number 1 first; None where it isn't registered.
+    // By application, number 1 first; None if it isn't registered.
     registrations: [Option<Registration>; APPS],
     // The events that passed.
     log: EventLog,
@@ -70,10 +70,10 @@ impl Model for EventDesk {
 
 impl EventDesk {
     /// A desk at which nobody is registered, with an empty log in mode 1. It takes the memory of
-    /// all log lines; AllocError where there isn't enough.
+    /// all log lines; AllocError if there isn't enough.
     ///
     /// # Errors
-    /// `AllocError` where memory runs out.
+    /// `AllocError` if memory runs out.
     pub fn new(alloc: Global) -> Result<EventDesk, AllocError>
         ensures { IfOk result (λ desk. desk ≡ new_desk) }
     {
@@ -104,12 +104,12 @@ impl EventDesk {
         self.registrations[place_of(app)] = None;
     }
 
-    /// Sends an event of an application. It passes where the filter for its id lets it through, or
+    /// Sends an event of an application. It passes if the filter for its id lets it through, or
     /// none is for its id: then it is logged, with the first [`MAX_TEXT`] bytes of its text, which
     /// may have any length. Passed or not, the filter counts it.
     ///
     /// # Errors
-    /// AppNotRegistered exactly where the application isn't registered; the refusal is counted.
+    /// AppNotRegistered if and only if the application isn't registered; the refusal is counted.
     #[tactic(auto, unfolding(fsw_base::specs::EventDesk::sent))]
     pub fn send(
         &mut self,
@@ -149,7 +149,7 @@ impl EventDesk {
     }
 
     /// Counts an event of a service whose line the log drops, whichever it is: as
-    /// [`EventDesk::service`] does, where the event's text has at most [`MAX_TEXT`] bytes, and
+    /// [`EventDesk::service`] does, if the event's text has at most [`MAX_TEXT`] bytes, and
     /// without it.
     #[tactic(auto, unfolding(fsw_base::specs::EventDesk::passed))]
     pub fn service_dropped(&mut self)
@@ -164,8 +164,8 @@ impl EventDesk {
     /// Sets the count of an application's filter for this event id to 0.
     ///
     /// # Errors
-    /// AppNotRegistered exactly where the application isn't registered; else EvtNotRegistered
-    /// exactly where none of its filters is for this id. A refusal is counted.
+    /// AppNotRegistered if and only if the application isn't registered; else EvtNotRegistered
+    /// if and only if none of its filters is for this id. A refusal is counted.
     #[tactic(auto, unfolding(fsw_base::specs::EventDesk::reset))]
     pub fn reset_filter(&mut self, app: AppNo, id: u16) -> Result<(), EvsStatus>
         ensures refusal { result_err result ≡ reset_refusal self.old app id }
@@ -181,7 +181,7 @@ impl EventDesk {
         Ok(())
     }
 
-    /// Why an event of the application would be refused; None where it wouldn't. Counts nothing.
+    /// Why an event of the application would be refused; None if it wouldn't. Counts nothing.
     pub fn send_refusal(&self, app: AppNo) -> Option<EvsStatus>
         ensures { result ≡ send_refusal self.now app }
     {
@@ -191,7 +191,7 @@ impl EventDesk {
         }
     }
 
-    /// Why a reset of the application's filter for this event id would be refused; None where it
+    /// Why a reset of the application's filter for this event id would be refused; None if it
     /// wouldn't. Counts nothing.
     pub fn reset_refusal(&self, app: AppNo, id: u16) -> Option<EvsStatus>
         ensures { result ≡ reset_refusal self.now app id }

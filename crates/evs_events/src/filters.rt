@@ -6,12 +6,12 @@ use arrayvec::ArrayVec;
 use fsw_base::{FilterList, MAX_FILTERS};
 use std::marker::Model;
 
-/// A filter for one event id: an event passes where the count AND the mask is 0.
+/// A filter for one event id: an event passes if the count AND the mask is 0.
 #[derive(Clone, Copy, Default)]
 pub struct Filter {
     // The event id.
     id: u16,
-    // Ones where the count must have zeros for an event to pass.
+    // Ones if the count must have zeros for an event to pass.
     mask: u16,
     // The events of this id since the registration or the last reset, passed or not; stops at
     // 65535.
@@ -36,7 +36,7 @@ impl Filter {
         self.count & self.mask == 0
     }
 
-    // Counts an event of this id, where the filter is for it.
+    // Counts an event of this id, if the filter is for it.
     fn count_event(&mut self, id: u16)
         ensures { self.new ≡ after_event id self.old }
     {
@@ -45,7 +45,7 @@ impl Filter {
         }
     }
 
-    // Counts from 0 again, where the filter is for this id.
+    // Counts from 0 again, if the filter is for this id.
     fn reset(&mut self, id: u16)
         ensures { self.new ≡ after_reset id self.old }
     {

@@ -13,7 +13,7 @@ pub const MAX_TEXT: usize = 122;
 /// An event as the log shows it.
 #[derive(Clone, Copy, Debug, PartialEq, Eq)]
 pub struct LogLine<'a> {
-    /// The application's number, 1 to 16, or 0 where a service tells the event.
+    /// The application's number, 1 to 16, or 0 if a service tells the event.
     pub app: u32,
     /// The event id.
     pub id: u16,

@@ -90,7 +90,7 @@ impl EventLog {
     /// A log without lines, in mode 1, with the memory for all its lines.
     ///
     /// # Errors
-    /// `AllocError` where memory runs out.
+    /// `AllocError` if memory runs out.
     pub fn new(alloc: Global) -> Result<EventLog, AllocError>
         ensures { IfOk result (λ log. log ≡ empty_log) }
     {

@@ -15,7 +15,7 @@ abbrev pub are_block_sizes : List ℕ → Bool
 are_block_sizes sizes =
     nat_le 1 (length sizes) && nat_le (length sizes) MAX_BLOCK_SIZES && are_rising_from 0 sizes
 
--- the sizes where nothing is configured
+-- the sizes if nothing is configured
 abbrev pub usual_sizes : List ℕ
 usual_sizes =
     8 ∷ 16 ∷ 32 ∷ 48 ∷ 64 ∷ 96 ∷ 128 ∷ 160 ∷ 256 ∷ 512 ∷ 1024 ∷ 2048 ∷ 4096 ∷ 8192 ∷ 16384 ∷ 32768 ∷

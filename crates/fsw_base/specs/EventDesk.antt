@@ -9,7 +9,7 @@ pub use Rattle.fsw_base.specs.PoolAccounts.{counted}
 use Rattle.fsw_base.specs.EventLog.{Log, empty_log, is_cut, event_line, is_full, kept}
 
 pub record Desk : Type 0 where
-  -- for each of the 16 applications, number 1 first, its filters; none where it isn't registered
+  -- for each of the 16 applications, number 1 first, its filters; none if it isn't registered
   pub registrations : List (Option (List EventFilter))
   pub log : Log
   -- events that passed, the services' own too
@@ -36,11 +36,11 @@ new_desk =
       lost = 0;
     }
 
--- one more where the test holds
+-- one more if the test holds
 abbrev pub counted_if : Bool → ℕ → ℕ
 counted_if test count = if test then counted count else count
 
--- the filters of an application, none where it isn't registered
+-- the filters of an application, none if it isn't registered
 abbrev pub filters_of : Desk → ℕ → Option (List EventFilter)
 filters_of desk app = slice_index_or desk.registrations (app - 1) None
 
@@ -79,7 +79,7 @@ refused_once desk = record desk { refused = counted desk.refused }
 abbrev pub tested : Desk → ℕ → List EventFilter → ℕ → Desk
 tested desk app filters id = with_filters desk app (Some (all_after_event filters id))
 
--- an application sends an event: refused where it isn't registered, else passed or held back by its
+-- an application sends an event: refused if it isn't registered, else passed or held back by its
 -- filters
 unfoldable pub sent : Desk → ℕ → ℕ → EventKind → List ℕ → Desk
 sent desk app id kind text = by_filters (filters_of desk app)

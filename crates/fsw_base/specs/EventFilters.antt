@@ -2,7 +2,7 @@
 use Rattle.std.specs.Prelude.{ℕ, ◌+◌, ◌==◌, ◌||◌, not, min, bit_and, Bool, List, map, if◌then◌else◌}
 use Rattle.std.specs.List.{list_any, list_all}
 
--- a filter: an event id, ones where the count must have zeros for an event to pass, and the events
+-- a filter: an event id, ones if the count must have zeros for an event to pass, and the events
 -- of this id since the registration or the last reset
 pub record EventFilter : Type 0 where
   pub id : ℕ
@@ -13,7 +13,7 @@ pub record EventFilter : Type 0 where
 abbrev pub fresh_filters : List (ℕ × ℕ) → List EventFilter
 fresh_filters pairs = map (λ pair. record { id = pair.0; mask = pair.1; count = 0 }) pairs
 
--- a filter lets an event through where its count AND its mask is 0
+-- a filter lets an event through if its count AND its mask is 0
 abbrev pub is_open : EventFilter → Bool
 is_open filter = bit_and filter.count filter.mask == 0
 
@@ -21,7 +21,7 @@ is_open filter = bit_and filter.count filter.mask == 0
 abbrev pub has_filter : List EventFilter → ℕ → Bool
 has_filter filters id = list_any (λ filter. filter.id == id) filters
 
--- an event passes where the filter for its id lets it through, or no filter is for its id
+-- an event passes if the filter for its id lets it through, or no filter is for its id
 abbrev pub passes : List EventFilter → ℕ → Bool
 passes filters id = list_all (λ filter. not (filter.id == id) || is_open filter) filters
 
@@ -34,7 +34,7 @@ after_event id filter =
 abbrev pub all_after_event : List EventFilter → ℕ → List EventFilter
 all_after_event filters id = map (after_event id) filters
 
--- a filter after a reset of this id: it counts from 0 again where the id is its own
+-- a filter after a reset of this id: it counts from 0 again if the id is its own
 abbrev pub after_reset : ℕ → EventFilter → EventFilter
 after_reset id filter = if filter.id == id then record filter { count = 0 } else filter
 

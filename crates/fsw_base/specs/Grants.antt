@@ -95,7 +95,7 @@ with_grant pool app class = record pool {
   out = pool.out ++ record { number = pool.given + 1; app = app; class = class } ∷ [];
 }
 
--- a request for a class: a grant where there is room for one more block of it, else nothing changes
+-- a request for a class: a grant if there is room for one more block of it, else nothing changes
 abbrev pub after_get_if : PoolGrants → ℕ → Option ℕ → PoolGrants
 after_get_if pool app None = pool
 after_get_if pool app (Some class) =
@@ -116,7 +116,7 @@ after_put pool number =
     if is_among pool.out number then record pool { out = without number pool.out }
     else record pool { errors = counted pool.errors }
 
--- a return is refused where the grant was never given, or isn't out any more
+-- a return is refused if the grant was never given, or isn't out any more
 abbrev pub put_answer : PoolGrants → ℕ → Result Unit EsStatus
 put_answer pool number =
     if not (was_given pool number) then Err BufferNotInPool
@@ -161,7 +161,7 @@ pool_in s pool = slice_index_or s.pools (pool - 1) (new_pool [] 0)
 abbrev pub has_numbers : Pools → ℕ → Bool
 has_numbers s pool = if is_pool s pool then nat_lt (pool_in s pool).given (2 ^ 64 - 1) else true
 
--- with the pool of this number changed; nothing changes where there is none
+-- with the pool of this number changed; nothing changes if there is none
 abbrev pub with_pool : Pools → ℕ → PoolGrants → Pools
 with_pool s pool after =
     if is_pool s pool then record s { pools = slice_set s.pools (pool - 1) after } else s
@@ -183,7 +183,7 @@ after_create s bytes =
     if refuses_pool s bytes then s
     else (record s { pools = s.pools ++ new_pool s.sizes bytes ∷ [] })
 
--- an answer of a pool's, where there is a pool of this number
+-- an answer of a pool's, if there is a pool of this number
 abbrev pub answer_in : {A : Type 0} → Pools → ℕ → Result A EsStatus → Result A EsStatus
 answer_in s pool answer = if is_pool s pool then answer else Err NoPool
 

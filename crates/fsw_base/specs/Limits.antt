@@ -48,7 +48,7 @@ limits_of c = record {
   version = c.version;
 }
 
--- the limits where nothing is configured
+-- the limits if nothing is configured
 abbrev pub usual_limits : Limits
 usual_limits = record {
   msgids = 256;

@@ -1,4 +1,4 @@
--- What a read and a write do to the bytes left and the bytes written, where these are told.
+-- What a read and a write do to the bytes left and the bytes written, if these are told.
 use Rattle.std.specs.Prelude.{◌≡◌, ℕ, ◌+◌, ◌-◌, ◌^◌, ◌≤◌, min, List, [], ◌++◌, length, take, Option, IfSome}
 use Rattle.std.specs.Option.{option_map}
 use Rattle.fsw_base.specs.declared.outside.ReadAnswer.{ReadAnswer}

@@ -69,7 +69,7 @@ after_draws account class count = record account {
   requests = counted_by account.requests count;
 }
 
--- a request for a class: one more block of it is out where there is room for it, else nothing
+-- a request for a class: one more block of it is out if there is room for it, else nothing
 -- changes
 abbrev pub after_request_if : Account → Option ℕ → Account
 after_request_if account None = account

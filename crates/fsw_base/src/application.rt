@@ -24,7 +24,7 @@ impl Model for AppNo {
 }
 
 impl AppNo {
-    /// The application of this number; None exactly where it isn't 1 to [`MAX_APPS`].
+    /// The application of this number; None if and only if it isn't 1 to [`MAX_APPS`].
     pub fn try_new(number: u32) -> Option<AppNo>
         ensures valid { IsSome result ↔ ((1 ≤ number) × (number ≤ MAX_APPS)) }
         ensures value { IfSome result (λ app. app ≡ number) }

@@ -28,7 +28,7 @@ impl Model for BlockSizes {
 }
 
 impl BlockSizes {
-    /// These sizes; None exactly where they aren't block sizes: none at all or too many of them,
+    /// These sizes; None if and only if they aren't block sizes: none at all or too many of them,
     /// or one that isn't a multiple of 8, is past [`MAX_BLOCK_SIZE`] or isn't above the one before.
     pub fn try_new(sizes: &[u32]) -> Option<BlockSizes>
         ensures valid { IsSome result ↔ IsTrue (are_block_sizes sizes.now) }
@@ -43,7 +43,7 @@ impl BlockSizes {
         }
     }
 
-    /// The sizes that a pool has where a mission configures none.
+    /// The sizes that a pool has if a mission configures none.
     pub fn usual() -> BlockSizes
         ensures { result ≡ usual_sizes }
     {
@@ -82,7 +82,7 @@ impl BlockSizes {
         self.sizes.as_slice()[i as usize]
     }
 
-    /// The place of the smallest size that holds `size` bytes; None exactly where none does.
+    /// The place of the smallest size that holds `size` bytes; None if and only if none does.
     pub fn class_of(&self, size: u32) -> Option<u32>
         ensures class { result ≡ class_of size self.now }
         ensures within { IfSome result (λ class. class < length self.now) }

@@ -38,7 +38,7 @@ impl EventKind {
         }
     }
 
-    /// The kind of this number; None exactly where the number isn't 1 to 4.
+    /// The kind of this number; None if and only if the number isn't 1 to 4.
     pub fn try_new(number: u32) -> Option<EventKind>
         ensures valid { IsSome result ↔ ((1 ≤ number) × (number ≤ 4)) }
         ensures kind { IfSome result (λ kind. kind_number kind ≡ number) }
@@ -68,7 +68,7 @@ impl Model for FilterList {
 }
 
 impl FilterList {
-    /// These filters; None exactly where there are too many or an id stands twice.
+    /// These filters; None if and only if there are too many or an id stands twice.
     pub fn try_new(pairs: &[(u16, u16)]) -> Option<FilterList>
         ensures valid { IsSome result ↔ IsTrue (are_filters pairs.now) }
         ensures value { IfSome result (λ kept. kept ≡ pairs.now) }

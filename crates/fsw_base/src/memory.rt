@@ -41,7 +41,7 @@ impl<'a> Model for MemSource<'a> {
 }
 
 impl<'a> MemSource<'a> {
-    /// A source of these bytes. Call number n, from 1, fails where `fails` lists n.
+    /// A source of these bytes. Call number n, from 1, fails if `fails` lists n.
     pub fn new(bytes: &'a [u8], piece: usize, fails: &'a [u32]) -> MemSource<'a>
         requires { 1 ≤ piece }
         ensures { result ≡
@@ -123,11 +123,11 @@ impl<'a> Model for MemSink<'a> {
 }
 
 impl<'a> MemSink<'a> {
-    /// A sink with room for so many bytes. Call number n, from 1, fails where `fails` lists n, and
+    /// A sink with room for so many bytes. Call number n, from 1, fails if `fails` lists n, and
     /// so does a call that finds no room left.
     ///
     /// # Errors
-    /// `AllocError` where memory runs out.
+    /// `AllocError` if memory runs out.
     pub fn new(
         alloc: Global,
         room: usize,

@@ -24,7 +24,7 @@ pub enum WriteAnswer {
 
 /// Where bytes come from.
 pub trait Source {
-    /// The bytes that are left, where this source tells them.
+    /// The bytes that are left, if this source tells them.
     ghost left: { Self → Option (List ℕ) };
 
     /// How often the source has failed.
@@ -32,7 +32,7 @@ pub trait Source {
 
     /// Reads into the front of `buf`, which isn't empty.
     ///
-    /// `Failed` comes only where the count of faults rose, or stands at its last value, 2^64 - 1.
+    /// `Failed` comes only if the count of faults rose, or stands at its last value, 2^64 - 1.
     fn read(&mut self, buf: &mut [u8]) -> ReadAnswer
         requires { 0 < length buf.old }
         ensures bytes { Reads result (left self.old) (left self.new) buf.new }
@@ -42,7 +42,7 @@ pub trait Source {
 
 /// Where bytes go to.
 pub trait Sink {
-    /// The bytes written, where this sink tells them.
+    /// The bytes written, if this sink tells them.
     ghost written: { Self → Option (List ℕ) };
 
     /// How often the sink has failed.
@@ -50,7 +50,7 @@ pub trait Sink {
 
     /// Writes a front of `bytes`, which isn't empty.
     ///
-    /// `Failed` comes only where the count of faults rose, or stands at its last value, 2^64 - 1.
+    /// `Failed` comes only if the count of faults rose, or stands at its last value, 2^64 - 1.
     fn write(&mut self, bytes: &[u8]) -> WriteAnswer
         requires { 0 < length bytes.now }
         ensures bytes { Writes result (written self.old) (written self.new) bytes.now }

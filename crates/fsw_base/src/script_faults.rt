@@ -6,10 +6,10 @@ ghost use Rattle.fsw_base.specs.ScriptFaults.{fault_name};
 #[derive(Clone, Copy, Debug, PartialEq, Eq)]
 pub struct WriteFault;
 
-/// What is wrong with a script, and where.
+/// What is wrong with a script, and if.
 #[derive(Clone, Copy, Debug, PartialEq, Eq)]
 pub struct ScriptFault {
-    /// The line's number from 1, or 0 where the fault is the whole script's.
+    /// The line's number from 1, or 0 if the fault is the whole script's.
     pub line: u32,
     /// What is wrong.
     pub kind: FaultKind,

@@ -42,7 +42,7 @@ impl CountStarts {
         }
     }
 
-    /// These starts; None exactly where there are too many, an id is invalid or stands twice, or a
+    /// These starts; None if and only if there are too many, an id is invalid or stands twice, or a
     /// count is past [`MAX_COUNT`].
     pub fn try_new(pairs: &[(u16, u16)]) -> Option<CountStarts>
         ensures valid { IsSome result ↔ IsTrue (are_count_starts pairs.now) }

@@ -154,7 +154,7 @@ pub for-app : {T E : Type 0} (P : T → ℕ → Type 0) (r : Result T E) → IfO
 for-app P (Ok x) each app = each app
 for-app P (Err e) each app = tt
 
--- An argument that says nothing known is refused before: where the call is asked, it is known. --
+-- An argument that says nothing known is refused before: if the call is asked, it is known. --
 
 pub known : {X : Type 0} (first : Option Refusal) (found : Option X) (other : X) (e : Refusal) → option_or first (refused_if (not (is_some found)) e None) ≡ None →
     (P : X → Type 0) → ((x : X) → found ≡ Some x → P x) → P (unwrap_or found other)

@@ -24,7 +24,7 @@ use Rattle.fsw_c.proofs.TableSteps.{same-core}
 too-many : (rules : List Rule) → 8 < length rules → leb (length rules) 8 ≡ false
 too-many rules many = grind (arith, nat_tests)
 
--- where the rules aren't few enough, there are more than 8
+-- if the rules aren't few enough, there are more than 8
 pub too-long : {T : Type 0} (found : Option T) (given : List FswRule) → (length given ≤ 8 → IsSome found) → found ≡ None → 8 < length (rules_in given)
 too-long found given few none = subst (λ (n : ℕ). 8 < n) (sym (length-map given rule_in)) (by_length (cases_lt 8 (length given)))
   where

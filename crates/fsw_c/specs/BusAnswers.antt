@@ -73,7 +73,7 @@ abbrev pub AnyonesCall : Option Core → Option Core → Call → Option Refusal
 AnyonesCall old new call reason status =
     (app : ℕ) → BusCall old new app call (λ bus. reason) status
 
--- the pipe that the application waits on; 0 where it doesn't wait, and where the handle is closed
+-- the pipe that the application waits on; 0 if it doesn't wait, and if the handle is closed
 abbrev pub pipe_waited_on : Option Core → ℕ → ℕ
 pipe_waited_on old app =
     option_map_or (λ (o : Core). waited_on (standing_of o.bus.core.whole.bus app)) old 0

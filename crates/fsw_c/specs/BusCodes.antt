@@ -1,4 +1,4 @@
--- The numbers of statuses of the bus: those of cFE where cFE has one, else one with service number
+-- The numbers of statuses of the bus: those of cFE if cFE has one, else one with service number
 -- 0, which cFE leaves free.
 use Rattle.std.specs.Prelude.{ℕ, Result, Ok, Err}
 use Rattle.fsw_base.specs.declared.statuses.SbStatus.{SbStatus}

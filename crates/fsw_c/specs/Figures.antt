@@ -143,7 +143,7 @@ ShowsBlock old pool grant shown =
 abbrev pub class_shown : ClassStats → FswClassStats
 class_shown class = record { size = class.size; made = class.made; free = class.free }
 
--- 1 where as many events were held back by a filter as before, else 0
+-- 1 if as many events were held back by a filter as before, else 0
 abbrev pub stays_filtered : Core → Core → ℕ
 stays_filtered old new =
     if old.bus.core.whole.bus.events.filtered == new.bus.core.whole.bus.events.filtered

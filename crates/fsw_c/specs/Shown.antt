@@ -5,7 +5,7 @@ use Rattle.checked_bus.specs.Box.{Boxed, last_message}
 use Rattle.fsw_core.specs.declared.Core.{Core}
 use Rattle.fsw_c.specs.declared.messages.FswMessage.{FswMessage}
 
--- how many bytes are there to be read; none where there is nothing
+-- how many bytes are there to be read; none if there is nothing
 abbrev pub shown_length : Option (List ℕ) → ℕ
 shown_length None = 0
 shown_length (Some bytes) = length bytes

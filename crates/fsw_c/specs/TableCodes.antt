@@ -1,4 +1,4 @@
--- The numbers of statuses of the tables: those of cFE where cFE has one, else one with service
+-- The numbers of statuses of the tables: those of cFE if cFE has one, else one with service
 -- number 0, which cFE leaves free.
 use Rattle.std.specs.Prelude.{ℕ, ◌+◌, ◌==◌, ◌||◌, Bool, nat_lt, if◌then◌else◌, Result, Ok, Err}
 use Rattle.tbl_words.specs.declared.statuses.TblStatus.{TblStatus}

@@ -23,7 +23,7 @@ read_code (Some o) app call =
     option_map_or unasked_table_code (unasked o.tables.core app call)
     (option_map_or tbl_code (cause o.tables.core.limits o.tables.core.state app call) 0)
 
--- the status of a look that is refused where the handle is closed, and nowhere else
+-- the status of a look that is refused if the handle is closed, and nowhere else
 abbrev pub use_code : Option Core → ℕ
 use_code None = closed_code
 use_code (Some o) = 0

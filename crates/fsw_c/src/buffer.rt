@@ -14,9 +14,9 @@ pub struct FswBuffer {
     pub(crate) lent: LentBlock,
     /// The number that its message will have.
     pub number: u64,
-    // 1 where there is one, else 0. It fills the struct, as in the handle.
+    // 1 if there is one, else 0. It fills the struct, as in the handle.
     pub(crate) is_out: u64,
-    /// There is one where there is a block.
+    /// There is one if there is a block.
     pub ghost told: { (is_out ≡ 1) ↔ IsSome lent.bytes },
 }
 

@@ -53,7 +53,7 @@ fn pairs_of(filters: &[FswFilter]) -> ArrayVec<(u16, u16), MOST>
     pairs
 }
 
-// Writes 1 where the count of events held back stayed, else 0, if the event was sent.
+// Writes 1 if the count of events held back stayed, else 0, if the event was sent.
 fn put_passed(
     passed: &mut u32,
     before: u32,

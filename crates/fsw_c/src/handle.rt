@@ -12,9 +12,9 @@ use std::mem;
 pub struct FswCore {
     // The core, or none.
     pub(crate) held: HeldCore,
-    // 1 where there is one, else 0. It fills the struct, so that no call writes bytes behind it.
+    // 1 if there is one, else 0. It fills the struct, so that no call writes bytes behind it.
     pub(crate) is_open: u64,
-    /// It is open where there is a core.
+    /// It is open if there is a core.
     pub ghost opened: { (is_open ≡ 1) ↔ IsSome held.value },
 }
 
@@ -29,7 +29,7 @@ impl FswCore {
         }
     }
 
-    /// Takes the core out, where there is one.
+    /// Takes the core out, if there is one.
     pub(crate) fn take(&mut self, alloc: Global) -> Option<Box<Core>>
         ensures taken { MatchOption result (self.old.held.value ≡ None)
             (λ core. self.old.held.value ≡ Some core.value) }

@@ -11,7 +11,7 @@ use std::marker::Model;
 #[repr(C)]
 #[derive(Drop)]
 pub struct HeldCore {
-    // Where the core lies; null where there is none.
+    // Where the core lies; null if there is none.
     at: *mut u8,
     // What frees it.
     alloc: Global,

@@ -1,6 +1,6 @@
 //! The message core for programs in C, as a static library: each export takes the core out of its
 //! handle, makes one call of it, and puts it back. Statuses are 32-bit numbers, which are cFE's
-//! where cFE has one.
+//! if cFE has one.
 //!
 //! ```text
 //! /* One application sends itself a packet. Answers how many bytes it received, 0 if refused. */

@@ -121,7 +121,7 @@ fn sizes_from(least: u32) -> BlockSizes
     BlockSizes::try_new(kept.as_slice()).unwrap()
 }
 
-/// The configuration of these limits, with each sequence count at 0; None where a limit isn't in
+/// The configuration of these limits, with each sequence count at 0; None if a limit isn't in
 /// its range.
 pub(crate) fn config_of(limits: &FswLimits) -> Option<Config>
     ensures valid { is_some result ≡ are_limits limits.now }

@@ -31,7 +31,7 @@ pub struct FswTableUse {
 pub struct FswTableStatus {
     /// How often it was updated.
     pub version: u64,
-    /// 0 where nothing is staged, 1 where something is, 2 where it was validated.
+    /// 0 if nothing is staged, 1 if something is, 2 if it was validated.
     pub staged: u32,
     /// How many handles, of whichever applications, hold a version of it.
     pub holds: u32,

@@ -46,7 +46,7 @@ impl FswRule {
     }
 }
 
-// These rules; None exactly where there are more than 8.
+// These rules; None if and only if there are more than 8.
 fn rules_of(rules: &[FswRule]) -> Option<RuleList>
     ensures valid { IsSome result ↔ (length rules.now ≤ 8) }
     ensures value { IfSome result (λ kept. kept ≡ rules_in rules.now) }

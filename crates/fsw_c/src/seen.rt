@@ -37,7 +37,7 @@ impl FswBytes {
     }
 }
 
-/// Where the bytes begin; null where there are none.
+/// Where the bytes begin; null if there are none.
 pub(crate) fn first_of(bytes: &[u8]) -> *const u8 {
     match bytes.first() {
         Some(first) => from_ref(first),

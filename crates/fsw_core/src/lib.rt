@@ -63,7 +63,7 @@ impl Core {
     /// unsent buffers.
     ///
     /// # Errors
-    /// `AllocError` where memory runs out.
+    /// `AllocError` if memory runs out.
     pub fn new(alloc: Global, cfg: &Config, apps: u32, buffers: u32) -> Result<Core, AllocError>
         requires apps { apps ≤ 16 }
         ensures bus { IfOk result
@@ -105,7 +105,7 @@ impl Core {
     /// The same in a box.
     ///
     /// # Errors
-    /// `AllocError` where memory runs out.
+    /// `AllocError` if memory runs out.
     pub fn new_boxed(
         alloc: Global,
         cfg: &Config,
@@ -154,7 +154,7 @@ impl Core {
     /// buffer out.
     ///
     /// # Errors
-    /// A [`Refusal`] where neither was asked.
+    /// A [`Refusal`] if neither was asked.
     pub fn end<L: Ledger, M: Ledger>(
         &mut self,
         app: u32,

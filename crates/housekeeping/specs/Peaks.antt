@@ -16,7 +16,7 @@ greater one other = record {
   bytes = max one.bytes other.bytes;
 }
 
--- the greatest of some numbers, 0 where there is none
+-- the greatest of some numbers, 0 if there is none
 abbrev pub greatest : List ℕ → ℕ
 greatest [] = 0
 greatest (number ∷ numbers) = max number (greatest numbers)

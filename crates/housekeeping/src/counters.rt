@@ -69,7 +69,7 @@ impl Counters {
         self.counts[which as usize]
     }
 
-    /// Of each number in use the greatest that was seen, 0 where none was.
+    /// Of each number in use the greatest that was seen, 0 if none was.
     pub fn peak(&self) -> InUse
         ensures { result ≡ self.now.peak }
     {

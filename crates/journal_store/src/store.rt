@@ -64,7 +64,7 @@ impl<R: Drop> JournalStore<R> {
     /// No rows yet, for the applications 1, 2, 3 and so on that have these budgets.
     ///
     /// # Errors
-    /// `AllocError` where memory runs out.
+    /// `AllocError` if memory runs out.
     pub fn new(alloc: Global, budgets: &[Budget]) -> Result<JournalStore<R>, AllocError>
         requires { AreBudgets budgets.now }
         ensures { IfOk result (λ store. store ≡ record { budgets = budgets.now; rows = [] }) }

@@ -3,7 +3,7 @@ ghost use Rattle.std.specs.Prelude.{◌≡◌};
 
 use crate::name::LoanName;
 
-/// What a core notes beside an entry of its journal, where the entry alone does not tell which
+/// What a core notes beside an entry of its journal, if the entry alone does not tell which
 /// memory the call gave.
 #[derive(Drop)]
 pub enum Note {

@@ -14,7 +14,7 @@ use Rattle.list_bus.specs.Decided.{decided, Decides}
 use Rattle.list_bus.specs.Inside.{means, limits_in, played_in}
 use Rattle.list_bus.specs.declared.bus.ListBus.TheInside.{Inside}
 
--- what is decided for this cause, or where there is none
+-- what is decided for this cause, or if there is none
 pub decided_by : (p : Played) (app : ℕ) (call : Call) (why : Option Refusal) → cause p.limits p.whole.bus app call ≡ why →
     decided p app call ≡ completed p.limits p.whole call (decided_with (reads_in p.whole) p.limits p.whole.bus app call why)
 decided_by p app call why is =

@@ -49,7 +49,7 @@ module _ (p : Played) (app : ℕ) where
   abbrev it : ℕ → PoolGrants
   it pool = pool_in s pool
 
-  -- the pools stay where the pool does
+  -- the pools stay if the pool does
   same : (pool : ℕ) → with_pool s pool (it pool) ≡ s
   same pool = by_pool (is_pool s pool)
     where

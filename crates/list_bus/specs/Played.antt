@@ -36,6 +36,6 @@ pub record Plays (old new : Played) (app : ℕ) (call : Call) (answer : BusAnswe
   pub limits : new.limits ≡ old.limits
   pub kept : IsPlayed new
 
--- the message received last from an application's pipe, where the pipe is live and has one
+-- the message received last from an application's pipe, if the pipe is live and has one
 abbrev pub last_of : State → ℕ → ℕ → Option Item
 last_of s app pipe = if owns s.pipes app pipe then last_on s.pipes pipe else None

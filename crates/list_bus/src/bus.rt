@@ -66,7 +66,7 @@ impl ListBus {
     /// A bus of so many applications, before their first call.
     ///
     /// # Errors
-    /// `AllocError` where memory runs out.
+    /// `AllocError` if memory runs out.
     pub fn new(alloc: Global, config: &Config, apps: u32) -> Result<ListBus, AllocError>
         ensures limits { IfOk result (λ bus. bus.limits ≡ limits_of config.now) }
         ensures whole { IfOk result
@@ -91,7 +91,7 @@ impl ListBus {
     /// What a call answers. The bus is left as the machine leaves it.
     ///
     /// # Errors
-    /// `AllocError` where memory runs out, or where a number of 32 bits is spent: 4294967295 pipes,
+    /// `AllocError` if memory runs out, or if a number of 32 bits is spent: 4294967295 pipes,
     /// subscriptions, send numbers or grants of one pool were given. The bus is
     /// unspecified then.
     pub fn step(

@@ -178,7 +178,7 @@ impl ListBus {
     }
 }
 
-// This refusal where the test is true, else the ones that follow.
+// This refusal if the test is true, else the ones that follow.
 fn refused_if(test: bool, status: SbStatus, others: Option<SbStatus>) -> Option<SbStatus>
     ensures { result ≡ refused_if test status others }
 {

@@ -25,7 +25,7 @@
 //! The code goes the way of the definition: why the call is refused, what it answers and changes,
 //! its events, what is counted, and the next sequence counts.
 //!
-//! Not claimed: what is left where memory runs out, or where a number of 32 bits is spent; speed. A
+//! Not claimed: what is left if memory runs out, or if a number of 32 bits is spent; speed. A
 //! call goes over the pipes and the subscriptions, a send over the pipes for each destination.
 #![tactic(auto)]
 

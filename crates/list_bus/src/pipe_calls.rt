@@ -130,7 +130,7 @@ impl ListBus {
         Ok(decision)
     }
 
-    /// The subscription of the pair ends; where there was none, an event says so.
+    /// The subscription of the pair ends; if there was none, an event says so.
     #[tactic(auto, unfolding(bus_words::specs::Events::call_events))]
     pub(crate) fn unsubscribe(
         &mut self,
@@ -178,7 +178,7 @@ fn pipe_text(name: &[u8]) -> Result<PipeText, AllocError>
     }
 }
 
-// The option bits of the pipe of a number; 0 where there is none.
+// The option bits of the pipe of a number; 0 if there is none.
 fn bits_of(pipes: &[ListPipe], number: u32) -> u32
     ensures { result ≡ bits_of pipes.now number }
 {
@@ -188,7 +188,7 @@ fn bits_of(pipes: &[ListPipe], number: u32) -> u32
     }
 }
 
-// The number of the pipe of a name; 0 where there is none.
+// The number of the pipe of a name; 0 if there is none.
 fn number_of(pipes: &[ListPipe], name: &[u8]) -> u32
     ensures { result ≡ number_of pipes.now name.now }
 {

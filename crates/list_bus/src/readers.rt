@@ -48,7 +48,7 @@ impl ListBus {
         have_all_ended(&self.standings)
     }
 
-    /// The size of an application's unsent buffer; 0 where it has none of this number.
+    /// The size of an application's unsent buffer; 0 if it has none of this number.
     pub fn unsent_size(&self, app: AppNo, number: u32) -> u32
         ensures { result ≡ unsent_size self.now.whole.bus.unsent app number }
     {

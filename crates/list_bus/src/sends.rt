@@ -18,7 +18,7 @@ use list_pipes::ListNexts;
 use std::alloc::{AllocError, Global};
 
 impl ListBus {
-    /// A message goes to the subscriptions of its id; where there is none, an event says so.
+    /// A message goes to the subscriptions of its id; if there is none, an event says so.
     #[tactic(auto, unfolding(bus_words::specs::Events::call_events))]
     pub(crate) fn transmit(
         &mut self,

@@ -97,7 +97,7 @@ pub(crate) fn are_others_idle(pipes: &[ListPipe], standings: &[ListStanding], ap
     true
 }
 
-// What the application at a place is doing, where the one at `own` has ended.
+// What the application at a place is doing, if the one at `own` has ended.
 fn standing_but(standings: &[ListStanding], place: usize, own: usize) -> ListStanding
     requires { place < length standings.now }
     ensures { standing_in result ≡

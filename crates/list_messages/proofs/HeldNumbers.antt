@@ -70,7 +70,7 @@ any_counted n (buffer ∷ buffers) = at (eqb buffer.number n) (count_by (of_buff
         rest ∙ ap (leb 1) same
 
 module _ (uses : List Use) (pipes : List Pipe) (unsent : List (List Buffer)) (tied : IsTied uses pipes unsent) where
-  -- a number is held where it is named
+  -- a number is held if it is named
   pub held_named : (n : ℕ) → is_held pipes unsent n ≡ is_used (use_at uses n)
   held_named n =
       ap (λ b. leb 1 (sum_by (named_by n) pipes) || b) (unsent_in unsent n ∙ any_counted n (buffers_in unsent))

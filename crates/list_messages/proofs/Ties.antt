@@ -197,7 +197,7 @@ added_tied uses pipes unsent app number size but within asked =
           (Each-with_unsent (BufferAsked uses) unsent app new (all_each (BufferAsked uses) (buffers_in unsent) but.buffers) asked);
     }
 
--- or nobody's, where there is no such application
+-- or nobody's, if there is no such application
 pub unplaced_tied : (uses : List Use) (pipes : List Pipe) (unsent : List (List Buffer)) (number : ℕ) → IsTiedBut uses pipes unsent number →
     IsTied (without_name uses number) pipes unsent
 unplaced_tied uses pipes unsent number but =

@@ -20,7 +20,7 @@ pub record IsTied (uses : List Use) (pipes : List Pipe) (unsent : List (List Buf
   pub buffers : All (λ buffer. buffer.size ≡ (use_at uses buffer.number).asked)
       (buffers_in unsent)
 
--- the numbers of the messages that leave pipes where each of these subscriptions is offered what is
+-- the numbers of the messages that leave pipes if each of these subscriptions is offered what is
 -- sent, in order
 abbrev pub dropped_by : Sending → List Subscription → List Pipe → List ℕ
 dropped_by sending [] pipes = []

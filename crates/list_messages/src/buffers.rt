@@ -178,7 +178,7 @@ pub(crate) fn has_unsent(unsent: &[OwnBuffers], app: AppNo, number: u32) -> bool
     buffer_of(unsent, app, number).is_some()
 }
 
-/// The size of an application's unsent buffer; 0 where it has none of this number.
+/// The size of an application's unsent buffer; 0 if it has none of this number.
 pub(crate) fn unsent_size(unsent: &[OwnBuffers], app: AppNo, number: u32) -> u32
     ensures { result ≡ unsent_size unsent.now app number }
 {

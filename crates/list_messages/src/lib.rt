@@ -28,7 +28,7 @@
 //! - Its account is that of the numbers held (`account_in`), counted as names come and go: each
 //!   call keeps that numbers are named as pipes and buffers name them (`IsKept`).
 //!
-//! Not claimed: what is left where memory runs out, or where a number of 32 bits is spent; speed.
+//! Not claimed: what is left if memory runs out, or if a number of 32 bits is spent; speed.
 #![tactic(auto)]
 
 mod blocks;

@@ -69,7 +69,7 @@ impl ListMessages {
     /// No pipe and no buffer of so many applications, with a pool of so many bytes.
     ///
     /// # Errors
-    /// `AllocError` where memory runs out.
+    /// `AllocError` if memory runs out.
     pub fn new(
         alloc: Global,
         pool: u32,
@@ -111,7 +111,7 @@ impl ListMessages {
     /// A new pipe stands last; its number.
     ///
     /// # Errors
-    /// `AllocError` where memory runs out, or where 4294967295 pipes were created. The pipes are
+    /// `AllocError` if memory runs out, or if 4294967295 pipes were created. The pipes are
     /// unspecified then.
     pub fn create(
         &mut self,
@@ -136,7 +136,7 @@ impl ListMessages {
     /// The pipe of this number leaves.
     ///
     /// # Errors
-    /// `AllocError` where memory runs out. The pipes are unspecified then.
+    /// `AllocError` if memory runs out. The pipes are unspecified then.
     pub fn delete(&mut self, alloc: Global, pipe: u32) -> Result<(), AllocError>
         requires { IsKept self.old }
         ensures after { OnOk result
@@ -165,7 +165,7 @@ impl ListMessages {
     /// A receive on the pipe of this number.
     ///
     /// # Errors
-    /// `AllocError` where memory runs out. The pipes are unspecified then.
+    /// `AllocError` if memory runs out. The pipes are unspecified then.
     pub fn receive(&mut self, alloc: Global, pipe: u32) -> Result<(), AllocError>
         requires { IsKept self.old }
         ensures after { OnOk result
@@ -195,7 +195,7 @@ impl ListMessages {
         has_unsent(&self.unsent, app, number)
     }
 
-    /// The size of an application's unsent buffer; 0 where it has none of this number.
+    /// The size of an application's unsent buffer; 0 if it has none of this number.
     pub fn unsent_size(&self, app: AppNo, number: u32) -> u32
         ensures { result ≡ unsent_size self.now.part.unsent app number }
     {
@@ -205,7 +205,7 @@ impl ListMessages {
     /// Gives an application a buffer, with a block for it; its number.
     ///
     /// # Errors
-    /// `AllocError` where memory runs out, or where 4294967295 send numbers were given. The buffers
+    /// `AllocError` if memory runs out, or if 4294967295 send numbers were given. The buffers
     /// are unspecified then.
     pub fn allocate(&mut self, app: AppNo, size: u32) -> Result<u32, AllocError>
         requires kept { IsKept self.old }
@@ -224,7 +224,7 @@ impl ListMessages {
     /// An application's buffer leaves.
     ///
     /// # Errors
-    /// `AllocError` where memory runs out. The buffers are unspecified then.
+    /// `AllocError` if memory runs out. The buffers are unspecified then.
     pub fn release(&mut self, alloc: Global, app: AppNo, number: u32) -> Result<(), AllocError>
         requires { IsKept self.old }
         ensures after { OnOk result
@@ -241,7 +241,7 @@ impl ListMessages {
     /// for so many bytes.
     ///
     /// # Errors
-    /// `AllocError` where memory runs out, or where a number of 32 bits is spent. The pipes are
+    /// `AllocError` if memory runs out, or if a number of 32 bits is spent. The pipes are
     /// unspecified then.
     pub fn send(
         &mut self,
@@ -281,7 +281,7 @@ impl ListMessages {
     /// its block and under its number.
     ///
     /// # Errors
-    /// `AllocError` where memory runs out, or where a count is spent. The pipes are
+    /// `AllocError` if memory runs out, or if a count is spent. The pipes are
     /// unspecified then.
     pub fn send_buffer(
         &mut self,
@@ -319,7 +319,7 @@ impl ListMessages {
     /// An application's pipes and buffers leave.
     ///
     /// # Errors
-    /// `AllocError` where memory runs out. The pipes are unspecified then.
+    /// `AllocError` if memory runs out. The pipes are unspecified then.
     pub fn end(&mut self, alloc: Global, app: AppNo) -> Result<(), AllocError>
         requires { IsKept self.old }
         ensures after { OnOk result (self.new.part ≡ without_all_of self.old.part app) }

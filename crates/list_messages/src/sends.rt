@@ -232,7 +232,7 @@ fn drop_name(uses: &mut Vec<SendUse>, number: u32)
     );
 }
 
-// A number's use is this one; nothing changes where the number wasn't given.
+// A number's use is this one; nothing changes if the number wasn't given.
 fn set_use(uses: &mut Vec<SendUse>, number: u32, new: SendUse)
     ensures { uses.new.items ≡ slice_set uses.old.items number new }
 {

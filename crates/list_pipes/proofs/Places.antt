@@ -50,7 +50,7 @@ left_more f xs i x gone more whole within is pushed at =
     ap (λ l. l ++ flat_map f (drop (i + 1) xs)) pushed
     ∙ (append_assoc gone (f x) (flat_map f (drop (i + 1) xs)) ∙ (sym (ap (λ l. gone ++ flat_map f l) (next_of xs i x within is)) ∙ at))
 
--- the same where the element was copied
+-- the same if the element was copied
 pub left_more_copied : {X : Type 0} (f : X → List ℕ) (xs : List X) (i : ℕ) (d : X) (gone more whole : List ℕ) →
     i < length xs → more ≡ gone ++ f (get_or xs i d) → gone ++ flat_map f (drop i xs) ≡ whole → more ++ flat_map f (drop (i + 1) xs) ≡ whole
 left_more_copied f xs i d gone more whole within pushed at =

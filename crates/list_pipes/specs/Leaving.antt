@@ -29,18 +29,18 @@ abbrev pub last_at : ℕ → List Pipe → List ℕ
 last_at number pipes =
     flat_map (λ pipe. if pipe.number == number then number_in pipe.last else []) pipes
 
--- the number of the message that a pipe drops where a subscription of its own is offered what is
+-- the number of the message that a pipe drops if a subscription of its own is offered what is
 -- sent
 abbrev pub dropped_on : Sending → Subscription → Pipe → List ℕ
 dropped_on sending sub pipe =
     number_in (dropped_at (verdict pipe sub sending.sender) pipe.queue)
 
--- the numbers of the messages that a subscription's pipe drops where it is offered what is sent
+-- the numbers of the messages that a subscription's pipe drops if it is offered what is sent
 abbrev pub dropped_from : Sending → Subscription → List Pipe → List ℕ
 dropped_from sending sub pipes =
     flat_map (λ pipe. if pipe.number == sub.pipe then dropped_on sending sub pipe else []) pipes
 
--- 1 where a pipe queues what a subscription of its own is offered
+-- 1 if a pipe queues what a subscription of its own is offered
 abbrev pub joined_on : Sending → Subscription → Pipe → ℕ
 joined_on sending sub pipe = if is_queued (verdict pipe sub sending.sender) then 1 else 0
 

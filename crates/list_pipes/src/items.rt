@@ -90,7 +90,7 @@ impl ListSending {
     /// A message to be sent.
     ///
     /// # Errors
-    /// `AllocError` where memory runs out.
+    /// `AllocError` if memory runs out.
     pub fn new(
         alloc: Global,
         sender: AppNo,

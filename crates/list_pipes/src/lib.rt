@@ -20,7 +20,7 @@
 //! - `ListSubscriptions`: subscriptions, routed ids and the subscriptions of an id.
 //! - `ListNexts`: the next sequence count of each id that has one.
 //!
-//! Not claimed: what is left where memory runs out; speed. Each look-up goes over its list.
+//! Not claimed: what is left if memory runs out; speed. Each look-up goes over its list.
 #![tactic(auto)]
 
 mod items;

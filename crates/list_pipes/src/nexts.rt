@@ -71,7 +71,7 @@ impl ListNexts {
         }
     }
 
-    /// An id's next count; 0 where it has none.
+    /// An id's next count; 0 if it has none.
     pub fn next_of(&self, id: u16) -> u16
         ensures count { result ≡ next_in self.now id }
         ensures within { result < 16384 }
@@ -89,7 +89,7 @@ impl ListNexts {
     /// An id has a next count, one more than this start, if it had none.
     ///
     /// # Errors
-    /// `AllocError` where memory runs out. The counts are unspecified then.
+    /// `AllocError` if memory runs out. The counts are unspecified then.
     pub fn start(&mut self, id: u16, start: u16) -> Result<(), AllocError>
         requires { start < 16384 }
         ensures { OnOk result

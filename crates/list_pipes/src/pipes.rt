@@ -69,7 +69,7 @@ pub fn has_message(pipes: &[ListPipe], number: u32) -> bool
     }
 }
 
-/// The number of the oldest message that waits on the pipe of this number; 0 where none does.
+/// The number of the oldest message that waits on the pipe of this number; 0 if none does.
 pub fn oldest_number(pipes: &[ListPipe], number: u32) -> u32
     ensures { result ≡ oldest_number pipes.now number }
 {
@@ -79,7 +79,7 @@ pub fn oldest_number(pipes: &[ListPipe], number: u32) -> u32
     }
 }
 
-// The number of a message; 0 where there is none.
+// The number of a message; 0 if there is none.
 fn number_of(item: Option<&ListItem>) -> u32
     ensures { result ≡ option_map_or (λ i. i.number) (option_copied item.entry) 0 }
 {
@@ -102,7 +102,7 @@ pub fn set_bits_of(pipes: &mut Vec<ListPipe>, number: u32, bits: u8)
 /// in `gone`.
 ///
 /// # Errors
-/// `AllocError` where memory runs out. The pipes are unspecified then.
+/// `AllocError` if memory runs out. The pipes are unspecified then.
 pub fn take_from(
     pipes: &mut Vec<ListPipe>,
     number: u32,
@@ -119,11 +119,11 @@ pub fn take_from(
     Ok(())
 }
 
-/// A subscription's pipe is offered what is sent: how many pipes queue it, at most one where pipes
+/// A subscription's pipe is offered what is sent: how many pipes queue it, at most one if pipes
 /// have different numbers. The number of a message that leaves for it goes last in `gone`.
 ///
 /// # Errors
-/// `AllocError` where memory runs out. The pipes are unspecified then.
+/// `AllocError` if memory runs out. The pipes are unspecified then.
 pub fn offer_to(
     pipes: &mut Vec<ListPipe>,
     sending: &ListSending,
@@ -148,7 +148,7 @@ pub fn offer_to(
 /// The numbers of all messages of the pipe of this number go last in `gone`.
 ///
 /// # Errors
-/// `AllocError` where memory runs out.
+/// `AllocError` if memory runs out.
 pub fn push_numbers_at(
     pipes: &[ListPipe],
     number: u32,
@@ -166,7 +166,7 @@ pub fn push_numbers_at(
 /// The numbers of all messages of an application's pipes go last in `gone`.
 ///
 /// # Errors
-/// `AllocError` where memory runs out.
+/// `AllocError` if memory runs out.
 pub fn push_numbers_of(
     pipes: &[ListPipe],
     app: AppNo,

@@ -129,7 +129,7 @@ impl ListSubscriptions {
     /// The subscriptions of an id, in order.
     ///
     /// # Errors
-    /// `AllocError` where memory runs out.
+    /// `AllocError` if memory runs out.
     pub fn route(&self, alloc: Global, id: u16) -> Result<Vec<ListSubscription>, AllocError>
         ensures { IfOk result (λ subs. subs.items ≡ route self.now.subscriptions id) }
     {
@@ -155,7 +155,7 @@ impl ListSubscriptions {
     /// Subscribes a pipe to an id, which gives the id a route. A pair that is live changes nothing.
     ///
     /// # Errors
-    /// `AllocError` where memory runs out, or where 4294967295 subscriptions were made. The
+    /// `AllocError` if memory runs out, or if 4294967295 subscriptions were made. The
     /// subscriptions are unspecified then.
     pub fn subscribe(
         &mut self,

@@ -62,7 +62,7 @@ le_product_behind n size =
 room_read : (cost k x bytes : ℕ) → leb (cost + k * x) bytes ≡ true → cost + k * x ≤ bytes
 room_read cost k x bytes e = grind (arith, nat_tests)
 
--- where there is room for so many more blocks, no more are out afterwards than the pool has bytes
+-- if there is room for so many more blocks, no more are out afterwards than the pool has bytes
 pub few_drawn : (account : Account) (class count : ℕ) → length account.made ≡ length account.sizes → class < length account.sizes → has_room_for account class count ≡ true → get_or account.out class 0 + count ≤ account.bytes
 few_drawn account class count e h room =
     let m = get_or account.made class 0 in

@@ -45,7 +45,7 @@ impl ListAccount {
     /// The account of a pool of so many bytes with these block sizes, of which nothing was made.
     ///
     /// # Errors
-    /// `AllocError` where memory runs out.
+    /// `AllocError` if memory runs out.
     pub fn new(alloc: Global, bytes: u32, sizes: &BlockSizes) -> Result<ListAccount, AllocError>
         ensures { IfOk result (λ account. account ≡
             record {
@@ -104,7 +104,7 @@ impl ListAccount {
         }
     }
 
-    /// The place of the smallest block size that holds `size` bytes; None exactly where none does.
+    /// The place of the smallest block size that holds `size` bytes; None if and only if none does.
     pub fn class_of(&self, size: u32) -> Option<u32>
         ensures class { result ≡ class_of size self.now.sizes }
         ensures within { IfSome result (λ class. class < length self.now.sizes) }
@@ -146,7 +146,7 @@ impl ListAccount {
         self.requests = self.requests.saturating_add(count);
     }
 
-    /// One block of the size at a place fewer is out; nothing changes where there is no such place.
+    /// One block of the size at a place fewer is out; nothing changes if there is no such place.
     pub fn give_back(&mut self, class: u32)
         ensures { self.new ≡ after_return self.old class }
     {
@@ -228,7 +228,7 @@ pub fn has_room_in(bytes: u32, sizes: &BlockSizes, made: &Vec<u32>, class: u32, 
     taken + cost <= u64::from(bytes)
 }
 
-/// The bytes that are left of so many, where so many blocks of each size were made.
+/// The bytes that are left of so many, if so many blocks of each size were made.
 pub(crate) fn free_of(bytes: u32, sizes: &BlockSizes, made: &Vec<u32>) -> u32
     requires { length made.now.items ≡ length sizes.now }
     ensures { result ≡ bytes - cost_of made.now.items sizes.now }

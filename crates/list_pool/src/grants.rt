@@ -209,7 +209,7 @@ impl GrantPool {
     /// Its account: as many blocks of each size are out as grants that are out have one.
     ///
     /// # Errors
-    /// `AllocError` where memory runs out, or where 4294967296 grants or more are out.
+    /// `AllocError` if memory runs out, or if 4294967296 grants or more are out.
     #[tactic(auto, using(crate::proofs::Counts::counts_long))]
     pub fn account(&self, alloc: Global) -> Result<ListAccount, AllocError>
         ensures { IfOk result (λ account. account ≡ pool_account self.now) }
@@ -227,7 +227,7 @@ impl GrantPool {
     }
 }
 
-// Whether a grant of this number was given, where so many were.
+// Whether a grant of this number was given, if so many were.
 fn was_given(given: u32, number: u32) -> bool
     ensures { result ≡ (nat_le 1 number && nat_le number given) }
 {

@@ -26,7 +26,7 @@
 //! - `ListAccount` draws and gives back as `fsw_base`'s accounts do. `has_room_in` tells the same
 //!   of numbers that aren't kept in an account.
 //!
-//! Not claimed: what is left of the pools where memory runs out; speed. A call looks at each grant
+//! Not claimed: what is left of the pools if memory runs out; speed. A call looks at each grant
 //! that is out of its pool, an end at those of all pools.
 #![tactic(auto)]
 

@@ -67,7 +67,7 @@ impl GrantPools {
     /// block of the smallest size.
     ///
     /// # Errors
-    /// `AllocError` where memory runs out. Nothing is said of the pools then.
+    /// `AllocError` if memory runs out. Nothing is said of the pools then.
     pub fn create(&mut self, alloc: Global, bytes: u32) -> Result<Result<u32, EsStatus>, AllocError>
         ensures answer { IfOk result (λ answer. answer ≡ create_answer self.old bytes) }
         ensures after { OnOk result (self.new ≡ after_create self.old bytes) }
@@ -86,7 +86,7 @@ impl GrantPools {
     /// more block of the smallest that is.
     ///
     /// # Errors
-    /// `AllocError` where memory runs out, or where the pool gave 4294967295 grants. Nothing is
+    /// `AllocError` if memory runs out, or if the pool gave 4294967295 grants. Nothing is
     /// said of the pools then.
     pub fn get(
         &mut self,
@@ -167,7 +167,7 @@ impl GrantPools {
     }
 }
 
-// Where the pool of a number stands, of so many; None where there is none of this number.
+// Where the pool of a number stands, of so many; None if there is none of this number.
 fn place_of(count: usize, pool: u32) -> Option<usize>
     ensures some { IfSome result (λ place. IsPlace count pool place) }
     ensures none { result ≡ None → (nat_le 1 pool && nat_le pool count) ≡ false }

@@ -7,7 +7,7 @@ use Rattle.list_tables.specs.declared.access.Access.{Access}
 use Rattle.list_tables.specs.declared.access.Access.TheVariants.{Refused, Reached, Nowhere}
 
 -- The table that is reached is the handle's, and it alone decides from there on. A refusal comes
--- whatever the table says. Nothing decides where there is no table.
+-- whatever the table says. Nothing decides if there is no table.
 abbrev pub IsAccess : State → ℕ → ℕ → Access → Type 0
 IsAccess s app handle (Refused why) =
     (others : Table → Option TblStatus) → table_cause s app handle others ≡ Some why

@@ -24,7 +24,7 @@
 //! - `step` is that of `tbl_words`, in any state: nothing is asked of the tables or of the call.
 //! - `in_use`, `account`, `held_receipt` and `has_ended` are those of the definitions.
 //!
-//! Not claimed: what is left of the tables where memory runs out; speed. A registration counts the
+//! Not claimed: what is left of the tables if memory runs out; speed. A registration counts the
 //! blocks of all tables anew.
 #![tactic(auto)]
 

@@ -62,7 +62,7 @@ impl ListTables {
     /// Table Services of so many applications, before their first call.
     ///
     /// # Errors
-    /// `AllocError` where memory runs out.
+    /// `AllocError` if memory runs out.
     pub fn new(alloc: Global, config: &Config, apps: u32) -> Result<ListTables, AllocError>
         ensures { IfOk result (λ tables. tables ≡
             record { limits = limits_of config.now; state = opening (limits_of config.now) apps }) }

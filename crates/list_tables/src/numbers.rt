@@ -3,7 +3,7 @@ ghost use Rattle.std.specs.Prelude.{◌≡◌, ◌+◌, IfOk};
 
 use std::alloc::AllocError;
 
-/// The next number; an error where it doesn't have 32 bits.
+/// The next number; an error if it doesn't have 32 bits.
 pub(crate) fn one_more(number: u32) -> Result<u32, AllocError>
     ensures { IfOk result (λ next. next ≡ number + 1) }
 {
@@ -13,7 +13,7 @@ pub(crate) fn one_more(number: u32) -> Result<u32, AllocError>
     Ok(number + 1)
 }
 
-/// The number in 32 bits; an error where it doesn't fit.
+/// The number in 32 bits; an error if it doesn't fit.
 pub(crate) fn narrow(number: u64) -> Result<u32, AllocError>
     ensures { IfOk result (λ narrow. narrow ≡ number) }
 {

@@ -20,7 +20,7 @@ impl ListTables {
     /// How much is in use: tables, handles, and the bytes of the tables' blocks.
     ///
     /// # Errors
-    /// `AllocError` where a number doesn't have 32 bits.
+    /// `AllocError` if a number doesn't have 32 bits.
     pub fn in_use(&self) -> Result<TblUse, AllocError>
         ensures { IfOk result (λ now. now ≡ use_of self.now.limits self.now.state) }
     {
@@ -37,7 +37,7 @@ impl ListTables {
     /// The account of the tables' pool.
     ///
     /// # Errors
-    /// `AllocError` where memory runs out, or a number doesn't have 32 bits.
+    /// `AllocError` if memory runs out, or a number doesn't have 32 bits.
     pub fn account(&self, alloc: Global) -> Result<ListAccount, AllocError>
         ensures { IfOk result (λ account. account ≡ account_of self.now.limits self.now.state) }
     {
@@ -48,10 +48,10 @@ impl ListTables {
         Ok(ListAccount::read(self.config.tablepool, sizes, made, out, self.drawn, 0))
     }
 
-    /// The receipt of what a live handle of the application holds; None where it holds nothing.
+    /// The receipt of what a live handle of the application holds; None if it holds nothing.
     ///
     /// # Errors
-    /// `AllocError` where that is longer than a table can be, 65536 bytes.
+    /// `AllocError` if that is longer than a table can be, 65536 bytes.
     pub fn held_receipt(
         &self,
         app: AppNo,

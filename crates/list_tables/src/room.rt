@@ -24,7 +24,7 @@ fn size_at(sizes: &BlockSizes, class: u32) -> u32
     sizes.at(class)
 }
 
-// The block size that a table of this size takes; 0 where there is none.
+// The block size that a table of this size takes; 0 if there is none.
 fn block_size(sizes: &BlockSizes, size: u32) -> u32
     ensures value { result ≡ block_size sizes.now size }
     ensures few { result ≤ 80000 }

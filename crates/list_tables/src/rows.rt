@@ -274,7 +274,7 @@ impl ListTable {
         self.staged = None;
     }
 
-    /// 0 where nothing is staged, 1 where something is, 2 where it was validated.
+    /// 0 if nothing is staged, 1 if something is, 2 if it was validated.
     pub(crate) fn staged_number(&self) -> u32
         ensures { result ≡ staged_number self.now.staged }
     {

@@ -46,7 +46,7 @@ pub(crate) fn with_range(
     Ok(Rc::new(alloc, kept)?)
 }
 
-// The byte at a place; 0 where there is none.
+// The byte at a place; 0 if there is none.
 fn byte_at(value: &[u8], place: u32) -> u8
     ensures { result ≡ slice_index value.now place }
 {
@@ -65,7 +65,7 @@ fn is_met(value: &[u8], rule: Rule) -> bool
     rule.low <= byte && byte <= rule.high
 }
 
-/// The number, from 1, of the first rule that a value fails; None where it meets them all.
+/// The number, from 1, of the first rule that a value fails; None if it meets them all.
 pub(crate) fn failed_rule(rules: &[Rule], value: &[u8]) -> Option<u32>
     requires { length rules.now ≤ MAX_RULES }
     ensures { result ≡ failed_rule rules.now value.now }

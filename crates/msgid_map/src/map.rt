@@ -18,7 +18,7 @@ const PLACES: usize = 0x2000;
 /// A route for each of some message ids. Contracts see the finite map from ids to routes, how many
 /// ids have one, and how many ids more there is room for.
 pub struct IdMap {
-    // At each id, its route and one more; 0 where it has none. There are [`PLACES`] of them.
+    // At each id, its route and one more; 0 if it has none. There are [`PLACES`] of them.
     places: Vec<u16>,
     // How many ids more may be inserted.
     room: u32,
@@ -57,7 +57,7 @@ impl IdMap {
     /// memory.
     ///
     /// # Errors
-    /// `AllocError` where there is no memory for the table.
+    /// `AllocError` if there is no memory for the table.
     pub fn new(alloc: Global, room: u32) -> Result<IdMap, AllocError>
         ensures { IfOk result
             (λ made. made ≡ record { routes = map.empty; count = 0; room = room }) }
@@ -67,8 +67,8 @@ impl IdMap {
         Ok(IdMap { places, room })
     }
 
-    /// The route that was inserted for this id; None exactly where none was, so for each invalid id
-    /// too.
+    /// The route that was inserted for this id; None if and only if none was, so for each invalid
+    /// id too.
     pub fn get(&self, id: u16) -> Option<u32>
         ensures { result ≡ map.get self.now.routes id }
     {

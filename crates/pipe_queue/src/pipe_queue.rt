@@ -45,7 +45,7 @@ impl PipeQueue {
     /// memory.
     ///
     /// # Errors
-    /// `AllocError` where memory runs out.
+    /// `AllocError` if memory runs out.
     pub fn new(alloc: Global, room: u32) -> Result<PipeQueue, AllocError>
         ensures { IfOk result
             (λ queue. queue ≡ record { room = room; depth = 0; queue = []; last = None }) }
@@ -99,7 +99,7 @@ impl PipeQueue {
         oldest
     }
 
-    /// Takes out the item that waits longest; None exactly where none waits.
+    /// Takes out the item that waits longest; None if and only if none waits.
     pub fn take_front(&mut self) -> Option<Item>
         ensures first { result ≡ slice_get self.old.queue 0 }
         ensures rest { self.new ≡ record self.old { queue = drop 1 self.old.queue } }

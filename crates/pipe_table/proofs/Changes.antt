@@ -12,7 +12,7 @@ use Rattle.pipe_table.specs.Table.{without_place}
 use Rattle.pipe_table.specs.Inside.{PlaceState, pipe_in, pipe_of, number_of, place_under, live_in, table_of, AreFiled, IsFree, AreKept}
 use Rattle.pipe_table.proofs.NumberedPipes.{StandsAt, nowhere, is_same, pipe_here, ordered, under_index, stands_under, as_many, changed, filed_changed, live_apart, filed_apart, free_apart, removed, filed_removed, removed_apart, pipe_elsewhere, pipe_there, IsApart, pairs_push, pairs_without, pairs_removed}
 
--- Where no pipe has the number. --
+-- If no pipe has the number. --
 
 none_changed : (f : PipeOf Item → PipeOf Item) (n : ℕ) (pipes : List (PipeOf Item)) → filter (λ pipe. eqb pipe.number n) pipes ≡ [] → with_pipe f n pipes ≡ pipes
 none_changed f n [] none = refl
@@ -48,7 +48,7 @@ unremoved depth places numbers at created number filed none =
 
 -- Changing one. --
 
--- a free place stays free where a place with a pipe changes
+-- a free place stays free if a place with a pipe changes
 frees_stay : (places : List PlaceState) (frees : List ℕ) (p : ℕ) (pipe : PipeOf Item) (x : PlaceState) → pipe_in places p ≡ Some pipe → All (IsFree places) frees → All (IsFree (set places p x)) frees
 frees_stay places frees p pipe x has all = All-weaker (IsFree places) (IsFree (set places p x)) stays frees all
   where

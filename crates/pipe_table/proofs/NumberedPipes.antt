@@ -390,7 +390,7 @@ changed f below places (m ∷ numbers) (q ∷ at) number p x filed under is =
         ∙ ap (λ b. cond {A = PipeOf Item} b (f stands.pipe) stands.pipe ∷ with_pipe f number (live_in places at)) (sym (other_number stands.pipe.number number (λ e. is_other m number other (sym stands.numbered ∙ e))))
         ∙ ap (λ o. with_pipe f number (option_to_list o ++ live_in places at)) (sym stands.has)
 
--- and each pipe stands where it stood, where the change keeps its number
+-- and each pipe stands where it stood, if the change keeps its number
 pub filed_changed : (below : ℕ) (places : List PlaceState) (numbers at : List ℕ) (p : ℕ) (x : PlaceState) → p < length places → AreFiled below places numbers at →
     number_of x.pipe ≡ number_of (pipe_in places p) → AreFiled below (set places p x) numbers at
 filed_changed below places [] [] p x within filed keeps = tt

@@ -22,7 +22,7 @@ find_here p (Some pipe) pipes n is = at (p pipe) is
     at true is = is
     at false is = absurd (cc (is))
 
--- where none passes here, the search goes on
+-- if none passes here, the search goes on
 pub find_on : (p : PipeOf Item → Bool) (o : Option (PipeOf Item)) (pipes : List (PipeOf Item)) → number_of (find p (option_to_list o)) ≡ None → find p (option_to_list o ++ pipes) ≡ find p pipes
 find_on p None pipes is = refl
 find_on p (Some pipe) pipes is = at (p pipe) is

@@ -1,5 +1,5 @@
 //! The live pipes of the software bus (cFE Software Bus, pipe table). Each is in a place of its
-//! own, where it is reached with no search, and is found by its number among the live ones alone.
+//! own, is reached there with no search, and is found by its number among the live ones alone.
 //! Numbers are 1, 2, 3 and so on in order of creation, none is used again, and nothing is kept of a
 //! deleted pipe.
 //!

@@ -29,7 +29,7 @@ struct Label {
 /// A place: a queue made once, and the pipe whose queue it is now, if any.
 #[derive(Drop)]
 pub(crate) struct Place {
-    // The pipe; None where the place is free, and the queue is empty then.
+    // The pipe; None if the place is free, and the queue is empty then.
     label: Option<Label>,
     // What waits on the pipe, and what was received last.
     queue: PipeQueue,
@@ -168,7 +168,7 @@ impl Place {
         }
     }
 
-    /// How many items wait; None where no pipe is here.
+    /// How many items wait; None if no pipe is here.
     pub(crate) fn waiting_count(&self) -> Option<u32>
         ensures { result ≡ option_map (λ pipe. length pipe.queue) self.now.pipe }
     {
@@ -251,7 +251,7 @@ impl Place {
         }
     }
 
-    // Offers the pipe, which is full, a message: where the pipe drops its oldest one for it, that
+    // Offers the pipe, which is full, a message: if the pipe drops its oldest one for it, that
     // one leaves, and the message is queued.
     fn offer_where_full(&mut self, item: Item) -> OfferOutcome
         requires { IsSome self.old.pipe }
@@ -272,7 +272,7 @@ impl Place {
         }
     }
 
-    // Whether the pipe drops its oldest message where it is full.
+    // Whether the pipe drops its oldest message if it is full.
     fn drops_oldest(&self) -> bool
         requires { IsSome self.now.pipe }
         ensures { result ≡ option_map_or drops_oldest self.now.pipe false }

@@ -66,7 +66,7 @@ impl PipeTable {
     /// no later call takes memory.
     ///
     /// # Errors
-    /// Where memory runs out.
+    /// If memory runs out.
     pub fn new(alloc: Global, pipes: u32, depth: u32) -> Result<PipeTable, AllocError>
         ensures { IfOk result
             (λ table. table ≡
@@ -231,7 +231,7 @@ impl PipeTable {
         pipe
     }
 
-    /// Ends the live pipe of this number, with what waits on it; no effect where none is live.
+    /// Ends the live pipe of this number, with what waits on it; no effect if none is live.
     pub fn remove(&mut self, number: u32)
         ensures { self.new ≡
             record
@@ -272,7 +272,7 @@ impl PipeTable {
         }
     }
 
-    /// Does the same where the live pipe of this number is the application's; None if and only if
+    /// Does the same if the live pipe of this number is the application's; None if and only if
     /// it has no such pipe, and then nothing changes. By the code, the number is looked up once.
     pub fn take_if_owned(&mut self, app: AppNo, number: u32) -> Option<(Option<Item>, Option<Item>)>
         ensures owned { is_some result ≡ owns self.old.live app number }
@@ -336,7 +336,7 @@ impl PipeTable {
 }
 
 // Where a number stands among those of the live pipes. It is looked for at the place where it
-// stands while no pipe was deleted, and by halves where it isn't there. For 0, which no pipe has,
+// stands while no pipe was deleted, and by halves if it isn't there. For 0, which no pipe has,
 // that place is past the end.
 fn index_of(live: &Vec<u32>, number: u32) -> Option<usize>
     requires { AreRising 0 live.now.items }
@@ -403,7 +403,7 @@ fn place_at(places: &Vec<Place>, at: u32) -> &Place
     &places[at as usize]
 }
 
-// The number of the pipe in a place, where it has the name.
+// The number of the pipe in a place, if it has the name.
 fn number_where_named(places: &[Place], at: u32, name: &[u8]) -> Option<u32>
     ensures { result ≡
         option_map (λ pipe. pipe.number)
@@ -417,7 +417,7 @@ fn number_where_named(places: &[Place], at: u32, name: &[u8]) -> Option<u32>
     }
 }
 
-// The number of the pipe in a place, where it is the application's.
+// The number of the pipe in a place, if it is the application's.
 fn number_where_owned(places: &[Place], at: u32, app: AppNo) -> Option<u32>
     ensures { result ≡
         option_map (λ pipe. pipe.number)

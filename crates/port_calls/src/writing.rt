@@ -48,7 +48,7 @@ impl Writer for PutBytes<'_> {
 }
 
 /// Makes the whole of a buffer a message of this id, with sequence count 0 and a payload that
-/// counts up from `fill`; nothing where the port's bag has no buffer of this number.
+/// counts up from `fill`; nothing if the port's bag has no buffer of this number.
 pub(crate) fn form_in(port: &mut BusPort<'_>, buf: u32, id: u16, fill: u8)
     requires { (bytes : List ℕ) → written_in port.old.bag buf ≡ Some bytes →
         (7 ≤ length bytes) × (length bytes ≤ 65542) }
@@ -63,7 +63,7 @@ pub(crate) fn form_in(port: &mut BusPort<'_>, buf: u32, id: u16, fill: u8)
     }
 }
 
-/// Writes bytes into a buffer, from an offset on; nothing where they don't fit, or the port's bag
+/// Writes bytes into a buffer, from an offset on; nothing if they don't fit, or the port's bag
 /// has no buffer of this number.
 pub(crate) fn put_bytes_in(port: &mut BusPort<'_>, buf: u32, offset: u32, bytes: &[u8])
     ensures bag { WritesBag port.old.bag port.new.bag
@@ -77,7 +77,7 @@ pub(crate) fn put_bytes_in(port: &mut BusPort<'_>, buf: u32, offset: u32, bytes:
     }
 }
 
-// Writes the bytes from an offset on, where they fit.
+// Writes the bytes from an offset on, if they fit.
 fn put_in(target: &mut [u8], offset: u32, bytes: &[u8])
     ensures { target.new ≡ put_in target.old offset bytes.now }
 {

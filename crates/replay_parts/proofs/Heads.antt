@@ -25,7 +25,7 @@ pub head_letter : (text one : List ℕ) (n app : ℕ) → text ≡ decimal n ++ 
 head_letter text one n app first begins =
     ((decimal app ++ 32 ∷ []) ++ begins.0, append_cancel_left (decimal n) one _ (sym first ∙ begins.1 ∙ parts (decimal n) (decimal app) begins.0))
 
--- where it doesn't begin with a number, it begins with none up to that
+-- if it doesn't begin with a number, it begins with none up to that
 pub none_more : (text : List ℕ) (n : ℕ) (test : Bool) → ((app : ℕ) → 1 ≤ app → app < n → ¬ Begins text (decimal app ++ 32 ∷ [])) →
     IsTrue test ↔ Begins text (decimal n ++ 32 ∷ []) → test ≡ false → (app : ℕ) → 1 ≤ app → app < n + 1 → ¬ Begins text (decimal app ++ 32 ∷ [])
 none_more text n test before this isnt app one less begins = by (app == n) refl

@@ -63,7 +63,7 @@ impl<'a> ComparedText<'a> {
     }
 
     /// The application, of so many, with whose number the line of the entry of this number begins;
-    /// None where the line begins with the number of none of them.
+    /// None if the line begins with the number of none of them.
     pub fn caller(&self, number: u32, apps: u32) -> Option<AppNo>
         requires { apps ≤ 16 }
         ensures some { IfSome result
@@ -81,7 +81,7 @@ impl<'a> ComparedText<'a> {
     /// The number, from 1, of the line in which the report isn't this text from here on.
     ///
     /// # Errors
-    /// `AllocError` exactly where the number doesn't have 32 bits.
+    /// `AllocError` if and only if the number doesn't have 32 bits.
     pub fn wrong_line(&self, text: &[u8]) -> Result<u32, AllocError>
         ensures line { IfOk result
             (λ line. line ≡ self.now.lines + wrong_line self.now.rest text.now) }

@@ -6,7 +6,7 @@ use fsw_base::{Sink, WriteAnswer};
 use std::alloc::Global;
 use std::marker::Model;
 
-/// A sink that keeps what is written. It fails only where memory runs out.
+/// A sink that keeps what is written. It fails only if memory runs out.
 #[derive(Drop)]
 pub struct KeptText {
     // What was written.

@@ -18,7 +18,7 @@
 //! - `ComparedText`: `take` goes past a text that is there, and past nothing else; `caller` is the
 //!   one application with whose number an entry's line begins; `wrong_line` is the number, from 1,
 //!   of the line in which the report isn't a text.
-//! - `KeptText` is a sink that fails only where memory runs out.
+//! - `KeptText` is a sink that fails only if memory runs out.
 //! - `EntryLine` keeps the line of one entry, of either service (`HasLine`), and nothing else.
 #![tactic(auto)]
 

@@ -83,7 +83,7 @@ impl EntryLine {
     /// Keeps the line of an entry under this number, and nothing else.
     ///
     /// # Errors
-    /// `AllocError` where memory runs out. The contract doesn't describe the line then.
+    /// `AllocError` if memory runs out. The contract doesn't describe the line then.
     pub fn keep<E: HasLine>(&mut self, number: u32, entry: &E) -> Result<(), AllocError>
         ensures { OnOk result (self.new ≡ E.line number entry.now) }
     {

@@ -6,7 +6,7 @@ use std::alloc::AllocError;
 /// The next number.
 ///
 /// # Errors
-/// `AllocError` exactly where 32 bits are spent.
+/// `AllocError` if and only if 32 bits are spent.
 pub fn one_more(number: u32) -> Result<u32, AllocError>
     ensures next { IfOk result (λ next. next ≡ number + 1) }
     ensures fits { IsOk result ↔ (number + 1 < 2 ^ 32) }

@@ -6,7 +6,7 @@ ghost use Rattle.run_check.specs.Judged.{Begins};
 // How many bytes a piece has. The compiler looks at a vector's bytes at once.
 const PIECE: usize = 64;
 
-/// What is behind a front of the text; None where the text doesn't begin with it.
+/// What is behind a front of the text; None if the text doesn't begin with it.
 pub(crate) fn behind<'a>(text: &'a [u8], front: &[u8]) -> Option<&'a [u8]>
     ensures { MatchOption result (¬ Begins text.entry.now front.now)
         (λ rest. text.entry.now ≡ front.now ++ rest.now) }

@@ -51,7 +51,7 @@ number_behind bytes front text at past =
     ∙ sym (wrong_behind front at.rest text)
     ∙ ap (λ b. wrong_line b (front ++ text)) (sym past.rest)
 
--- the number of a line is read where the text still is
+-- the number of a line is read if the text still is
 read_there : (at from : Compared) (text : List ℕ) (line : ℕ) → at ≡ from → line ≡ at.lines + wrong_line at.rest text → line ≡ from.lines + wrong_line from.rest text
 read_there at from text line same is = is ∙ ap (λ (t : Compared). t.lines + wrong_line t.rest text) same
 
@@ -116,7 +116,7 @@ run_of script h begun whole tables all = record {
   merges = record { each = whole; each_at_tables = all; nobody_else = begun.nobody_else; nobody_else_at_tables = tables.nobody_else };
 }
 
--- where both services are behind the lines of the report, all of it is that of a run
+-- if both services are behind the lines of the report, all of it is that of a run
 pub behind_both : (script : ScriptText) (bytes : List ℕ) (from at to : Compared) (r : Replay) (t : TableReplay) (past : IsPastBus script bytes from r) → GoesPast from at (codes "tables\n") →
     (lines : AreTableLines script at to t) → AreBehind script (both past lines) r t
 behind_both script bytes from at to r t past heading lines = record {

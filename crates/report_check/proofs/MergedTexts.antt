@@ -34,7 +34,7 @@ merged-tables (x ∷ ms) (y ∷ ts) m t some more first other less =
     by false is = refl
     by true is = absurd (less (omega (arith, ltb-true x.place y.place is, ap (λ (a : Made). a.place) first, ap (λ (a : Made). a.place) other)))
 
--- where none of one service is left, those of the other follow
+-- if none of one service is left, those of the other follow
 merged-none : (bus : List Made) → merged bus [] ≡ receipts_in bus
 merged-none [] = refl
 merged-none (m ∷ ms) = refl
@@ -52,7 +52,7 @@ it_holds P b is both = both.0 is
 pub it_fails : (P : Type 0) (b : Bool) → b ≡ false → IsTrue b ↔ P → ¬ P
 it_fails P b is both = λ holds. true≢false (sym (both.1 holds) ∙ is)
 
--- the text of what is put is that of all, where this is what was put and what is left
+-- the text of what is put is that of all, if this is what was put and what is left
 pub put_more : (app : ℕ) (all left more : List Receipt) (r : Receipt) (put : List ℕ) → application_text app all ≡ put ++ application_text app left → left ≡ r ∷ more →
     application_text app all ≡ (put ++ receipt_text app r) ++ application_text app more
 put_more app all left more r put whole next =

@@ -17,7 +17,7 @@ use Rattle.bus_replay.specs.Replays.{Replay}
 use Rattle.table_replay.specs.Replays.{Replay as TableReplay}
 use Rattle.report_check.specs.declared.tail.TablesShown.{TablesShown}
 
--- what an application's lines made of the bus, where all applications are at these places
+-- what an application's lines made of the bus, if all applications are at these places
 abbrev pub made_of_bus : List Kept → ℕ → List Made
 made_of_bus places app =
     option_map_or (λ (place : Kept). place.receipts) (slice_get places (app - 1)) []

@@ -65,7 +65,7 @@ impl<'a> HasAccount for ShownAccount<'a> {
 /// The accounts of the pools that applications created, number 1 first.
 ///
 /// # Errors
-/// `AllocError` where memory runs out, or where a number of 32 bits is spent.
+/// `AllocError` if memory runs out, or if a number of 32 bits is spent.
 pub(crate) fn accounts_of(alloc: Global, pools: &GrantPools) -> Result<Vec<ListAccount>, AllocError>
     ensures { IfOk result (λ accounts. accounts.items ≡ map pool_account pools.now.pools) }
 {

@@ -13,7 +13,7 @@
 //!
 //! # Proved
 //!
-//! - `check` answers Yes exactly where the text is the report of a run of the script, and else the
+//! - `check` answers Yes if and only if the text is the report of a run of the script, and else the
 //!   number of the first line up to which it is no run's (`IsAnswer`).
 //! - `parts_of` cuts an input at its first line `---`, into a script and a report.
 #![tactic(auto)]

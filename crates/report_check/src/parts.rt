@@ -7,7 +7,7 @@ ghost use Rattle.report_check.specs.Parts.{is_mark, parts_in};
 
 use memchr::memchr;
 
-/// The bytes before the first line that is `---`, and those behind this line; None where no line
+/// The bytes before the first line that is `---`, and those behind this line; None if no line
 /// is. A carriage return before the line's feed is no part of it, and the last line may have no
 /// feed.
 pub fn parts_of<'a>(input: &'a [u8]) -> Option<(&'a [u8], &'a [u8])>

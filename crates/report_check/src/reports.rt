@@ -19,7 +19,7 @@ use table_replay::{TablesReplayed, replay_tables};
 /// Each line is judged by the entries before it, and by the script.
 ///
 /// # Errors
-/// `AllocError` where memory runs out, or where a number of 32 bits is spent, which no report of
+/// `AllocError` if memory runs out, or if a number of 32 bits is spent, which no report of
 /// fewer than 2^32 bytes leads to.
 pub fn check(alloc: Global, script: &Script, report: &[u8]) -> Result<Judgement, AllocError>
     ensures { IfOk result (λ verdict. IsAnswer script.now report.now verdict) }

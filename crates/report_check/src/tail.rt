@@ -34,7 +34,7 @@ pub(crate) struct TablesShown {
 /// `receipts` on.
 ///
 /// # Errors
-/// `AllocError` where memory runs out, or where a number of 32 bits is spent.
+/// `AllocError` if memory runs out, or if a number of 32 bits is spent.
 pub(crate) fn tail_of(
     alloc: Global,
     apps: u32,

@@ -216,7 +216,7 @@ module _ (subs : List SubNo) (sub : SubNo) where
       by_case (inr e) later =
           ap (map (dest_at subs)) (left_later x xs e) ∙ (ap (λ ds. dest_at subs x ∷ ds) later ∙ sym (ap (λ b. cond b (map (dest_at subs) xs) (dest_at subs x ∷ without sub (map (dest_at subs) xs))) e))
 
-  -- the last place is the one before it where the end is linked behind it, else as it was
+  -- the last place is the one before it if the end is linked behind it, else as it was
   pub last-left : (links : List ℕ) (from : ℕ) (xs : List ℕ) (to : ℕ) → Linked links from xs to → Has subs sub xs → times_in xs to ≡ 0
       → last_of from (left_of subs sub xs) ≡ cond (eqb (get_or links (node_of subs sub xs) 0) to) (place_before subs sub from xs) (last_of from xs)
   last-left links from [] to l h none = absurd cc

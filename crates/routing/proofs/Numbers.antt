@@ -250,7 +250,7 @@ module _ (numbers : IdRoutes) (ids : List ℕ) (capacity : ℕ) (counted : List 
   number_there id =
       a.mapped id ∙ (sym (route_from-routes 0 ids counted table.lists id (fewer_counts numbers ids capacity counted table msgids limit a) (fewer_lists numbers ids capacity counted table msgids limit a)) ∙ ap (λ (r : Routing). route_of r.routes id) e)
 
-  -- where a destination stands, there is a list
+  -- if a destination stands, there is a list
   pub holds_inside : (route : ℕ) (before behind : List Dest) (dest : Dest) → dests_in table route ≡ before ++ dest ∷ behind → route < length table.lists
   holds_inside route before behind dest here = by_case (cases_lt route (length table.lists))
     where

@@ -17,7 +17,7 @@ all_long (ns ∷ lists) limit few =
     more : (n : ℕ) → suc n * limit ≡ limit + n * limit
     more n = grind arith
 
--- and one fewer at least where one of them has fewer
+-- and one fewer at least if one of them has fewer
 one_short : (lists : List (List ℕ)) (limit list : ℕ) → ((i : ℕ) → i < length lists → length (get_or lists i []) ≤ limit) → list < length lists → length (get_or lists list []) < limit → sum_by (λ (ns : List ℕ). length ns) lists < length lists * limit
 one_short [] limit list few h short = absurd (omega (arith, h))
 one_short (ns ∷ lists) limit zero few h short =

@@ -31,7 +31,7 @@ route_at s route = slice_index_or s.routes route (fresh_route 0)
 abbrev pub dests_at : Routing → ℕ → List Dest
 dests_at s route = (route_at s route).dests
 
--- the number of the id's route, where routes are numbered on from this number
+-- the number of the id's route, if routes are numbered on from this number
 abbrev pub route_from : ℕ → List Route → ℕ → Option ℕ
 route_from number [] id = None
 route_from number (route ∷ routes) id =

@@ -149,7 +149,7 @@ impl DestLists {
         self.free.push(0, node, steps);
     }
 
-    /// The first destination of a list, with its node; None exactly where the list is empty. At
+    /// The first destination of a list, with its node; None if and only if the list is empty. At
     /// most 2 steps.
     pub(crate) fn first<L: Ledger>(&self, list: u32, steps: &mut Steps<L>) -> Option<(u32, SubNo)>
         requires { list < length self.now.lists }
@@ -161,8 +161,8 @@ impl DestLists {
         dest_behind(&self.links, &self.subs, self.nodes, anchor, steps)
     }
 
-    /// The destination behind a node that is in a list; None exactly where the node is the last. At
-    /// most 2 steps.
+    /// The destination behind a node that is in a list; None if and only if the node is the last.
+    /// At most 2 steps.
     pub(crate) fn next<L: Ledger>(&self, node: u32, steps: &mut Steps<L>) -> Option<(u32, SubNo)>
         requires { node < length self.now.lists * self.now.limit }
         ensures behind { (list : ℕ) (before behind : List Dest) (sub : _) →
@@ -198,7 +198,7 @@ fn dest_behind<L: Ledger>(
     }
 }
 
-// The last node of a list of this length, or its anchor where it is empty.
+// The last node of a list of this length, or its anchor if it is empty.
 fn last_place<L: Ledger>(
     tails: &Links,
     list: u32,
@@ -217,7 +217,7 @@ fn last_place<L: Ledger>(
     }
 }
 
-// Notes a list's last place where it has changed.
+// Notes a list's last place if it has changed.
 fn note_last<L: Ledger>(
     tails: &mut Links,
     list: u32,

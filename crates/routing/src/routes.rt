@@ -81,7 +81,7 @@ impl Routes {
     /// of them can be numbered in 32 bits. By the code, no later call takes memory.
     ///
     /// # Errors
-    /// Where memory runs out.
+    /// If memory runs out.
     pub fn new(
         alloc: Global,
         msgids: u32,
@@ -127,7 +127,7 @@ impl Routes {
         self.ids.len() as u32
     }
 
-    /// The number of the id's route; None exactly where the id has none.
+    /// The number of the id's route; None if and only if the id has none.
     pub fn route_of(&self, id: u16) -> Option<u32>
         ensures { result ≡ route_of self.now.routes id }
     {
@@ -150,8 +150,8 @@ impl Routes {
         self.dests.len(route)
     }
 
-    /// Makes a route for a valid id that has none, and answers its number. MaxMsgsMet exactly where
-    /// there are as many routes as there may be; then nothing changes.
+    /// Makes a route for a valid id that has none, and answers its number. MaxMsgsMet if and only
+    /// if there are as many routes as there may be; then nothing changes.
     ///
     /// # Errors
     /// `MaxMsgsMet` if and only if there are as many routes as there may be.
@@ -177,7 +177,7 @@ impl Routes {
     }
 
     /// Adds a destination behind all others of a route, under a node that no other has. MaxDestsMet
-    /// exactly where the route has as many as it may; then nothing changes. At most 8 steps.
+    /// if and only if the route has as many as it may; then nothing changes. At most 8 steps.
     ///
     /// # Errors
     /// `MaxDestsMet` if and only if the route has as many destinations as it may.
@@ -220,8 +220,8 @@ impl Routes {
         self.dests.remove(route, sub, steps);
     }
 
-    /// A route's first destination, with its node; None exactly where the route has none. At most 2
-    /// steps.
+    /// A route's first destination, with its node; None if and only if the route has none. At most
+    /// 2 steps.
     pub fn first<L: Ledger>(&self, route: u32, steps: &mut Steps<L>) -> Option<(u32, SubNo)>
         requires { route < length self.now.routes }
         ensures first { result ≡ first_dest (dests_at self.now route) }
@@ -232,7 +232,7 @@ impl Routes {
     }
 
     /// The destination behind a node that `first` or `next` answered, in the route where it stands;
-    /// None exactly where it is the last there. Of a node that stands in no route the answer says
+    /// None if and only if it is the last there. Of a node that stands in no route the answer says
     /// nothing. At most 2 steps.
     pub fn next<L: Ledger>(&self, node: u32, steps: &mut Steps<L>) -> Option<(u32, SubNo)>
         requires { node < self.now.msgids * self.now.dests }

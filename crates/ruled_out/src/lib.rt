@@ -20,7 +20,7 @@
 
 ghost use Rattle.std.specs.Prelude.{◌≡◌, ◌<◌, IsSome, IsOk, Some, Ok};
 
-/// Stands where the proof rules a case out, as `unreachable!()` does.
+/// Stands if the proof rules a case out, as `unreachable!()` does.
 #[macro_export]
 macro_rules! ruled_out {
     () => {{

@@ -64,7 +64,7 @@ begun_tables_front script p r begun = record {
 
 -- Nothing yet. --
 
--- where each call is done, some entries are all that lines make
+-- if each call is done, some entries are all that lines make
 after_done : (call : Call) (Rest : List Entry → Type 0) (es : List Entry) → Rest es → AfterAnswer call answers.Done Rest es
 after_done (calls.Pend pipe) Rest es rest = rest
 after_done call Rest es rest = rest

@@ -231,7 +231,7 @@ module _ (script : ScriptText) where
       subst (λ (l : List Entry). StandsBehind app l (place_from script.limits after app (lines_of script app) now es)) joined
       (go app (before ++ e ∷ []) es after now longer (any_step app before e after.bus p (begun_front script (before ++ e ∷ []) es longer) stands))
 
--- and where it is active, the bus sees its next line
+-- and if it is active, the bus sees its next line
 pub places_stand : (script : ScriptText) (history : List Entry) (app : ℕ) → IsBegun script history → 1 ≤ app → app ≤ length script.apps →
     let standing = standing_of ((whole_after script.limits (length script.apps) history).bus) app in
     IsAt script app (own_entries app history) standing (left_from script app standing (place_after script app history)) × IsReady standing (lines_of script app) (place_after script app history)

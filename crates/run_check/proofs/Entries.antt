@@ -129,8 +129,8 @@ bus_follows-some n e x none = some (decimal n) _ (sym (parts_of n e x) ∙ none)
     some [] z same = cc same
     some (b ∷ d) z same = cc same
 
--- What is behind the lines of a history that is under way, where another's begin with them: the other's further lines. Behind its
--- lines the other has a text, which is none where entries are missing.
+-- What is behind the lines of a history that is under way, if another's begin with them: the other's further lines. Behind its
+-- lines the other has a text, which is none if entries are missing.
 pub bus_follows : (script : ScriptText) → length script.apps ≤ 16 → (p y x : List Entry) (n : ℕ) (u v : List ℕ) →
     IsBegun script (p ++ y) → IsBegun script (p ++ x) → (v ≡ []) ⊎ IsWhole script (p ++ x) →
     numbered entry_text n x ++ v ≡ numbered entry_text n y ++ u → (z : List Entry) × (x ≡ y ++ z) × (u ≡ numbered entry_text (n + length y) z ++ v)

@@ -8,7 +8,7 @@ use Rattle.run_check.specs.Openings.{first_lines}
 
 -- First lines. --
 
--- 1 where a byte ends a line
+-- 1 if a byte ends a line
 abbrev pub ends_one : ℕ → ℕ
 ends_one byte = cond (byte == 10) 1 0
 
@@ -26,7 +26,7 @@ pub record AreLines (n : ℕ) (text front : List ℕ) : Type 0 where
   pub none : n ≡ zero → front ≡ []
   pub ends : (m : ℕ) → n ≡ suc m → EndsLine front
 
--- so many lines less where a byte ends one
+-- so many lines less if a byte ends one
 abbrev behind : Bool → ℕ → ℕ
 behind b n = if b then n else suc n
 

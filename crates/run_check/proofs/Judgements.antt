@@ -49,7 +49,7 @@ forced_from script bytes done rest next text is goes steps opening front others 
     by (inl found) = (found.0 ++ next, goes ∙ ap (λ d. d ++ next) found.1 ∙ append_assoc front found.0 next)
     by (inr found) = behind found.0 found.1
 
--- of the lines behind a text, where what has to be there is known and doesn't come
+-- of the lines behind a text, if what has to be there is known and doesn't come
 kept : (next rest f others more z : List ℕ) → f ++ others ≡ next ++ more → rest ≡ f ++ z → ¬ Begins rest next → Begins next f
 kept next rest f others more z same is wrong = by (two_fronts f others next more same)
   where

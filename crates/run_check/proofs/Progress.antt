@@ -27,13 +27,13 @@ end_call : (e : Entry) (es : List Entry) → IsEnd (e ∷ es) → e.call ≡ cal
 end_call e [] end = end
 end_call e (f ∷ es) end = absurd end
 
--- the first of what lines owe has their first call, where that is a call of the bus
+-- the first of what lines owe has their first call, if that is a call of the bus
 line_call : (made : Option Call) (Next : Call → BusAnswer → List Entry → Type 0) (Same : List Entry → Type 0) (call : Call) (e : Entry) (es : List Entry) →
     made ≡ Some call → LineEntries made Next Same (e ∷ es) → e.call ≡ call
 line_call None Next Same call e es is owed = absurd (cc is)
 line_call (Some made) Next Same call e es is owed = owed.0 ∙ cc is
 
--- what is owed begins with the call that comes next; where none does, nothing is owed or the line is silent
+-- what is owed begins with the call that comes next; if none does, nothing is owed or the line is silent
 owed_call : (standing : Standing) (left : Option Running) (call : Call) (e : Entry) (es : List Entry) → next_call standing left ≡ Some call → Owes standing left (e ∷ es) → e.call ≡ call
 owed_call Active (Some r) call e es is owed = by r.lines is owed
   where

@@ -1,4 +1,4 @@
--- Two runs of a script have the same report only where they have the same histories.
+-- Two runs of a script have the same report only if they have the same histories.
 use Rattle.std.proofs.Common.{◌≡◌, ℕ, ◌≤◌, inr, List, [], ◌∷◌, ◌++◌, length, map, codes, ap, sym, ◌∙◌, subst, append_assoc, append-nil}
 use Rattle.std.specs.Fmt.{decimal}
 use Rattle.std.specs.List.{range_with_len}

@@ -121,8 +121,8 @@ tables_follow-some n e x none = some (decimal n) _ (sym (parts_of n e x) ∙ non
     some [] z same = cc same
     some (b ∷ d) z same = cc same
 
--- What is behind the lines of a history that is under way, where another's begin with them: the other's further lines. Behind its
--- lines the other has a text, which is none where entries are missing.
+-- What is behind the lines of a history that is under way, if another's begin with them: the other's further lines. Behind its
+-- lines the other has a text, which is none if entries are missing.
 pub tables_follow : (script : ScriptText) → length script.apps ≤ 16 → (p y x : List Entry) (n : ℕ) (u v : List ℕ) →
     AreBegunTables script (p ++ y) → AreBegunTables script (p ++ x) → (v ≡ []) ⊎ AreWholeTables script (p ++ x) →
     numbered table_entry_text n x ++ v ≡ numbered table_entry_text n y ++ u → (z : List Entry) × (x ≡ y ++ z) × (u ≡ numbered table_entry_text (n + length y) z ++ v)

@@ -140,7 +140,7 @@ settled_ready script app t p e x there =
     gone line =
         passed_at_tables app t (drop (p.place + 1) (lines_of script app)) (behind_at_tables app t line e.call e.answer p)
 
--- where no line is left it stays where it is
+-- if no line is left it stays where it is
 pub settled_none : (script : ScriptText) (app : ℕ) (t : Tables) (p : TablePlace) (e : Entry) → slice_get (lines_of script app) p.place ≡ None →
     settled_at_tables app t (lines_of script app) e.call e.answer p ≡ p
 settled_none script app t p e none = ap (λ (o : Option Line). option_map_or (λ line. gone line) o p) none

@@ -73,7 +73,7 @@ line_head (c ∷ h) (x ∷ l) others w high same =
     let found = line_head h l others w (and_second (nat_le 11 c) (above 11 h) high) rest in
     (found.0, ap (λ b. b ∷ l) first ∙ ap (λ t. c ∷ t) found.1)
 
--- where a line ends in a text that begins with a head, the line begins with it
+-- if a line ends in a text that begins with a head, the line begins with it
 pub line_begins : (n a : ℕ) (front others w : List ℕ) → EndsLine front → front ++ others ≡ entry_head n a ++ w → Begins front (entry_head n a)
 line_begins n a front others w ends same =
     let line : ends.0 ++ 10 ∷ others ≡ entry_head n a ++ w = sym (append_assoc ends.0 (10 ∷ []) others) ∙ ap (λ f. f ++ others) (sym ends.1) ∙ same in

@@ -1,4 +1,4 @@
--- Runs of a script that are under way: which calls its applications may have made so far, and where
+-- Runs of a script that are under way: which calls its applications may have made so far, and if
 -- none is missing.
 use Rattle.std.specs.Prelude.{ℕ, ◌≤◌, List, ◌++◌, length, All}
 use Rattle.bus_words.specs.declared.history.Entry.{Entry}

@@ -34,7 +34,7 @@ pub record IsFirstWrong (script : ScriptText) (bytes : List ℕ) (line : ℕ) : 
   pub wrong : ¬ Starts script bytes line
   pub least : (fewer : ℕ) → fewer < line → Starts script bytes fewer
 
--- Yes where the bytes are the report of a run of the script; else No, with the number of the first
+-- Yes if the bytes are the report of a run of the script; else No, with the number of the first
 -- line that is no run's
 abbrev pub IsAnswer : ScriptText → List ℕ → Judgement → Type 0
 IsAnswer script bytes Yes = IsGood script bytes

@@ -9,7 +9,7 @@ use Rattle.script_runs.specs.Runs.{IsRunOf}
 use Rattle.run_check.specs.Begun.{IsBegun, AreBegunTables}
 use Rattle.run_check.specs.Openings.{report}
 
--- two runs of a script have the same report only where they have the same histories
+-- two runs of a script have the same report only if they have the same histories
 abbrev pub ReportsTellRuns : Type 0
 ReportsTellRuns =
     (script : ScriptText) (one other : Histories) → IsScript script →

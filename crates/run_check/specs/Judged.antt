@@ -56,7 +56,7 @@ pub data IsJudged (script : ScriptText) (bytes : List ℕ) (verdict : Judgement)
       ¬ Begins rest (codes "tables\n") →
       verdict ≡ No (wrong_line bytes (bus_part script history ++ codes "tables\n")) →
       IsJudged script bytes verdict
-  -- the same of the tables, where no entry of the bus is missing
+  -- the same of the tables, if no entry of the bus is missing
   NobodysTableEntry :
       (histories : Histories) (rest : List ℕ) → IsBegun script histories.bus →
       IsWhole script histories.bus →

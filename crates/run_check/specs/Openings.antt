@@ -34,9 +34,9 @@ bus_part script history = head script ++ entries_text history
 abbrev pub tables_part : List TableEntry → List ℕ
 tables_part history = codes "tables\n" ++ table_entries_text history
 
--- A report begins so where a run of the script has these histories so far: with the lines on the
--- bus; where no entry of the bus is missing, also with those on the tables; and it is all there
--- where none of the tables is missing either.
+-- A report begins so if a run of the script has these histories so far: with the lines on the
+-- bus; if no entry of the bus is missing, also with those on the tables; and it is all there
+-- if none of the tables is missing either.
 pub data Opens (script : ScriptText) (histories : Histories) (text : List ℕ) : Type 0 where
   WithBus : text ≡ bus_part script histories.bus → Opens script histories text
   WithTables : IsWhole script histories.bus →
@@ -45,7 +45,7 @@ pub data Opens (script : ScriptText) (histories : Histories) (text : List ℕ) :
   WithAll : IsWhole script histories.bus → AreWholeTables script histories.tables →
       text ≡ report script histories → Opens script histories text
 
--- the first lines of a text, so many, each with its line end; None where it has fewer
+-- the first lines of a text, so many, each with its line end; None if it has fewer
 abbrev pub first_lines : ℕ → List ℕ → Option (List ℕ)
 first_lines zero text = Some []
 first_lines (suc n) [] = None

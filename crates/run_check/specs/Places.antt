@@ -85,7 +85,7 @@ abbrev pub gone_on : ℕ → State → List Line → Call → BusAnswer → Plac
 gone_on app s lines (calls.Pend pipe) Pending p = p
 gone_on app s lines call answer p = passed app s (drop p.place lines) p
 
--- of all its lines, where it is once its next call was so answered
+-- of all its lines, if it is once its next call was so answered
 abbrev pub settled : ℕ → State → List Line → Call → BusAnswer → Place → Place
 settled app s lines calls.End answer p = p
 settled app s lines (calls.Look pipe) answer p =
@@ -107,7 +107,7 @@ place_from limits w app lines p (e ∷ es) =
     place_from limits after app lines
     (if e.app == app then settled app after.bus lines e.call e.answer p else p) es
 
--- where it is after a history of a script
+-- if it is after a history of a script
 abbrev pub place_after : ScriptText → ℕ → List Entry → Place
 place_after script app history =
     let w = opening_whole script.limits (length script.apps) in

@@ -17,7 +17,7 @@ use Rattle.script_runs.specs.Written.{first_written, written_after, written_by}
 use Rattle.run_check.specs.Begun.{AreAllOf, IsBegun}
 
 -- Behind its own entries an application that stands so has to make exactly what is owed by the one
--- that goes on, where one does.
+-- that goes on, if one does.
 pub record IsAt (script : ScriptText) (app : ℕ) (own : List Entry) (standing : Standing)
     (left : Option Running) : Type 0 where
   pub owes : (es : List Entry) → AreAllOf script app (own ++ es) → Owes standing left es
@@ -79,7 +79,7 @@ NextCallsMayCome =
 
 -- How an application goes on: before its first line, past a line that the bus doesn't see, behind a
 -- line's entry, behind the look that settles it, and behind its end; and its entries are all there
--- are where it has ended, and there alone.
+-- are if it has ended, and there alone.
 pub record ProgressGoesOn (script : ScriptText) (app : ℕ) : Type 0 where
   pub first :
       (handles : List ℕ) →

@@ -60,7 +60,7 @@ behind_at_tables app t line call answer p = record p {
   receipts = p.receipts ++ made_at p.place (addressed_in app t call answer);
 }
 
--- of all its lines, where it is once its next call was so answered; at its end it has none left
+-- of all its lines, if it is once its next call was so answered; at its end it has none left
 abbrev pub settled_at_tables : ℕ → State → List Line → Call → TblAnswer → TablePlace → TablePlace
 settled_at_tables app t lines call answer p =
     option_map_or
@@ -77,7 +77,7 @@ table_place_from limits t app lines p (e ∷ es) =
     table_place_from limits after app lines
     (if e.app == app then settled_at_tables app after lines e.call e.answer p else p) es
 
--- where it is after a history of a script
+-- if it is after a history of a script
 abbrev pub table_place_after : ScriptText → ℕ → List Entry → TablePlace
 table_place_after script app history =
     let t = opening script.limits (length script.apps) in

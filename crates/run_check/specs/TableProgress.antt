@@ -1,4 +1,4 @@
--- The same of the tables, where no call waits: what an application has still to make behind its
+-- The same of the tables, if no call waits: what an application has still to make behind its
 -- entries so far, and which call comes next.
 use Rattle.std.specs.Prelude.{◌≡◌, ℕ, ◌≤◌, List, [], ◌∷◌, ◌++◌, length, Option, Some, None, IsTrue}
 use Rattle.tbl_words.specs.declared.history.Call.{Call}
@@ -15,7 +15,7 @@ use Rattle.script_runs.specs.Written.{Written}
 use Rattle.run_check.specs.Begun.{AreAllTablesOf, AreBegunTables}
 
 -- behind its own entries an application has to make exactly what is owed by the one that goes on,
--- where one does
+-- if one does
 pub record IsAtTables (script : ScriptText) (app : ℕ) (own : List Entry)
     (left : Option Running) : Type 0 where
   pub owes : (es : List Entry) → AreAllTablesOf script app (own ++ es) → TableOwes left es
@@ -55,7 +55,7 @@ NextTableCallsMayCome =
     IsTableAnswered script history e → AreBegunTables script (history ++ e ∷ [])
 
 -- how an application goes on: before its first line, past a line that the tables don't see, behind
--- a line's entry, and behind its end; and its entries are all there are where it has ended, and
+-- a line's entry, and behind its end; and its entries are all there are if it has ended, and
 -- there alone
 pub record TableProgressGoesOn (script : ScriptText) (app : ℕ) : Type 0 where
   pub first :

@@ -8,7 +8,7 @@ ghost use Rattle.run_check.specs.TablePlaces.{TablePlacesGoOn};
 ghost use Rattle.run_check.specs.TableProgress.{ApplicationsGoOnAtTables, NextTableCallsAreKnown, NextTableCallsMayCome};
 ghost use Rattle.run_check.specs.Determined.{ReportsTellRuns, NextEntriesAreOne, NextTableEntriesAreOne};
 
-/// Two runs of a script have the same report only where they have the same histories, of the bus
+/// Two runs of a script have the same report only if they have the same histories, of the bus
 /// and of the tables. For behind a history that is under way each application has one next entry:
 /// its script says which call it makes, and the machine what it is answered. So the number of the
 /// application, with which a line on an entry begins, says which entry it is.
@@ -25,7 +25,7 @@ pub fn wrong_lines_are_first()
     ensures { WrongLinesAreFirst }
 {}
 
-/// A report that is judged line by line, each line by the entries before it, is answered: Yes where
+/// A report that is judged line by line, each line by the entries before it, is answered: Yes if
 /// it is the report of a run of the script, and else No with the number of the first line up to
 /// which it is no run's.
 pub fn judged_reports_are_answered()

@@ -120,7 +120,7 @@ pool_text name account =
     field_text (codes "errors") account.errors ++ codes "\n"
 
 -- a block size, by its place: how many blocks were cut, and how many of them are free; nothing
--- where none was cut
+-- if none was cut
 abbrev pub class_text : PoolName → Account → ℕ → List ℕ
 class_text name account class =
     if slice_index account.made class == 0 then [] else

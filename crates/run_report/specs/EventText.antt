@@ -4,12 +4,12 @@ use Rattle.std.specs.List.{flat_map}
 use Rattle.fsw_base.specs.EventLog.{Line, Log}
 use Rattle.fsw_base.specs.Events.{kind_number}
 
--- a text with a blank before it; nothing where the text is empty
+-- a text with a blank before it; nothing if the text is empty
 abbrev pub behind_blank : List ℕ → List ℕ
 behind_blank [] = []
 behind_blank (byte ∷ bytes) = codes " " ++ byte ∷ bytes
 
--- the line of an event: its application, 0 where a service told it, its id, the number of its kind,
+-- the line of an event: its application, 0 if a service told it, its id, the number of its kind,
 -- and its text as the log keeps it
 abbrev pub log_line_text : Line → List ℕ
 log_line_text line =

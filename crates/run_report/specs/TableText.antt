@@ -43,7 +43,7 @@ told_text Same = codes "CFE_SUCCESS"
 told_text Updated = codes "CFE_TBL_INFO_UPDATED"
 told_text NeverLoaded = codes "CFE_TBL_ERR_NEVER_LOADED"
 
--- 1 where it is so, else 0
+-- 1 if it is so, else 0
 abbrev pub flag_text : Bool → List ℕ
 flag_text true = codes "1"
 flag_text false = codes "0"

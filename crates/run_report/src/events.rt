@@ -58,7 +58,7 @@ fn put_log_line<K: Sink>(sink: &mut SinkGuard<'_, K>, page: &mut Page, line: &Lo
     put(sink, page, b"\n");
 }
 
-// Puts a text with a blank before it; nothing where the text is empty.
+// Puts a text with a blank before it; nothing if the text is empty.
 fn put_behind_blank<K: Sink>(sink: &mut SinkGuard<'_, K>, page: &mut Page, text: &[u8])
     ensures { Puts sink.old sink.new page.old page.new (behind_blank text.now) }
 {

@@ -122,7 +122,7 @@ fn put_classes<K: Sink, P: HasAccount>(
     }
 }
 
-// Puts the line of a block size, by its place; nothing where no block of it was cut.
+// Puts the line of a block size, by its place; nothing if no block of it was cut.
 fn put_class<K: Sink, P: HasAccount>(
     sink: &mut SinkGuard<'_, K>,
     page: &mut Page,

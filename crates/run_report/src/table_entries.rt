@@ -175,7 +175,7 @@ fn put_told<K: Sink>(sink: &mut SinkGuard<'_, K>, page: &mut Page, told: Told)
     }
 }
 
-// Puts 1 where it is so, else 0.
+// Puts 1 if it is so, else 0.
 fn put_flag<K: Sink>(sink: &mut SinkGuard<'_, K>, page: &mut Page, flag: bool)
     ensures { Puts sink.old sink.new page.old page.new (flag_text flag) }
 {

@@ -22,7 +22,7 @@ use text_page::{Page, finish, put, put_number};
 /// memory is taken. No write through this guard may have failed before.
 ///
 /// # Errors
-/// `WriteFault` only where a write failed, so that the sink's count of faults rose in this call (or
+/// `WriteFault` only if a write failed, so that the sink's count of faults rose in this call (or
 /// stands at its last value); the sink then has a front of the text, and after the failed write
 /// nothing more is written.
 pub fn write_report<K: Sink>(

@@ -158,7 +158,7 @@ fn look_on<'r, R: Wait>(rt: &R, bus: &Bus<'r>, from: &mut BusPort<'r>, _pipe: u3
 }
 
 // Sends the pipe's last message on side 2, with the count that it has. A refusal stands in the
-// history there, and the message is not sent again. False where the budget has no room for it, and
+// history there, and the message is not sent again. False if the budget has no room for it, and
 // nothing is sent.
 fn forward<'r, R: Wait>(
     rt: &R,

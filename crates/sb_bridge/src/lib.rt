@@ -9,7 +9,7 @@
 //! afterwards is not forwarded.
 //!
 //! ```text
-//! /// A message of id 0x0801 goes from side 1 to side 2, where B waits for it.
+//! /// A message of id 0x0801 goes from side 1 to side 2, if B waits for it.
 //! fn forward_one<R: Threads + Wait + Sync>(rt: &R, alloc: Global) -> Option<()> {
 //!     let text = b"route 0x0801 4\n---\napp A\nsend 0x0801 8 16\n---\n\
 //!         app B\ncreate p0 4 B\nsub 0x0801 p0\npend p0\n";
@@ -32,4 +32,5 @@ mod opening;
 mod run;
 mod threads;
 
+pub use bridge_plan::read_plan;
 pub use run::{Bridged, run_bridge};

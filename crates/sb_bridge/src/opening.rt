@@ -24,11 +24,11 @@ use thread_run::{RunParts, Work, meet_works};
 // The name of the bridge's pipe.
 const BRIDGE: &[u8] = b"BRIDGE";
 
-/// Takes the memory of the bridge's ports of a side, where those of the script's applications were
+/// Takes the memory of the bridge's ports of a side, if those of the script's applications were
 /// made.
 ///
 /// # Errors
-/// Where memory runs out.
+/// If memory runs out.
 pub(crate) fn open_ports<'r>(
     alloc: Global,
     shared: RunParts<'_, 'r>,

@@ -57,7 +57,7 @@ impl Drop for Bridged<'_> {
 /// the bridge, once all were; one that waits there for a later one of these waits for ever.
 ///
 /// # Errors
-/// Where memory runs out; by the code, no application ran then.
+/// If memory runs out; by the code, no application ran then.
 pub fn run_bridge<'r, R: Threads + Wait + Sync, G: Gate>(
     rt: &R,
     alloc: Global,
@@ -134,7 +134,7 @@ pub(crate) struct SecondClosed<'r> {
     pub(crate) two: Finished<'r>,
 }
 
-// Runs both sides and the bridge, where the applications of side 1 may begin, and closes side 2.
+// Runs both sides and the bridge, if the applications of side 1 may begin, and closes side 2.
 fn run_second<'a, 'r, R: Threads + Wait + Sync, G: Gate>(
     rt: &'a R,
     alloc: Global,

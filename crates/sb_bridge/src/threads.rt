@@ -154,7 +154,7 @@ pub(crate) struct BegunSide<'e, 'r> {
     pub(crate) starts: Starts,
 }
 
-// Begins a side's applications, each on a thread of the scope, where the bridge's thread was asked
+// Begins a side's applications, each on a thread of the scope, if the bridge's thread was asked
 // for.
 fn begin_side<'s, 'x, 'e: 's, 'r: 's, R: Threads + Wait + Sync, G: Gate>(
     scope: &'s Scope<'s, &'x ()>,

@@ -125,7 +125,7 @@ made_transmit_buffer a core next app buf bytes inc (Ok it) told stands whole act
     (transmitted-left a.core.limits a.noted.log.entries a.core.whole.bus core.whole.bus app buf it.number it.reached bytes inc
     (step_is a core app (TransmitBuffer buf bytes inc) (Sent it.number it.reached) stands acts)))
 
--- where an entry was pushed there is one
+-- if an entry was pushed there is one
 pub some_pushed : (old mid : NotedLog) (e : Entry) (note : Note) → mid ≡ record { log = with_entry old.log e; notes = old.notes ++ note ∷ [] } → 1 ≤ length mid.log.entries
 some_pushed old mid e note pushed = omega (arith, ap (λ (n : NotedLog). length n.log.entries) pushed, length_push old.log.entries e)
 

@@ -208,7 +208,7 @@ module _ (a : Inside) (core : Plain) (next : NotedLog) (app pipe : ℕ) (call : 
       made_quiet a core next app call answer told acts makes whole as_told pushed nothing none no_buffer
       (λ other some had. kept_on a core app pipe loans unowned (gets_from pipe e) fares other (λ same. none pipe) some) (λ number now. descs number)
 
--- a pipe of the application's is gone where all of its pipes are
+-- a pipe of the application's is gone if all of its pipes are
 gone : (app : ℕ) (pipes : List Pipe) (number : ℕ) → AreSingle pipes → owns pipes app number ≡ true → is_some (last_on (filter (λ pipe. not (pipe.owner == app)) pipes) number) ≡ true → ⊥
 gone app [] number one = λ own some. true≢false (sym own)
 gone app (pipe ∷ pipes) number one = by_tests (pipe.number == number) refl (pipe.owner == app) (gone app pipes number one.1)

@@ -71,7 +71,7 @@ loan_of-told f (x ∷ pipes) number live = by_test (x.number == number) refl (lo
 
 -- Buffers. --
 
--- a bag has the buffers that are due where the application has the same ones, and their descriptors stay
+-- a bag has the buffers that are due if the application has the same ones, and their descriptors stay
 pub buffers-alike : (unsent now : List (List Buffer)) (descs others : List BufferDesc) (sizes : List ℕ) (app : ℕ) (bag : Holding LentBytes) → unsent_of now app ≡ unsent_of unsent app →
     ((number : ℕ) → has_unsent unsent app number ≡ true → desc_of others number ≡ desc_of descs number) →
     HoldsBuffers unsent descs sizes app bag → HoldsBuffers now others sizes app bag

@@ -1,4 +1,4 @@
--- The room for notes, where a call may be entered, and where the last entry gets another answer.
+-- The room for notes, if a call may be entered, and if the last entry gets another answer.
 use Rattle.std.proofs.Common.{◌≡◌, ℕ, ◌+◌, ◌<◌, ◌≤◌, List, [], ◌∷◌, ◌++◌, length, map, ap, sym, ◌∙◌, arith}
 use Rattle.std.proofs.lemmas.List.{length_push, map_push}
 use Rattle.fsw_base.specs.declared.config.Budget.{Budget}

@@ -37,7 +37,7 @@ from-gone : (n : ℕ) (s : State) (app buf : ℕ) → From n s (buffer_gone s ap
 from-gone n s app buf = was_unsent n s.unsent (without_unsent s.unsent app buf) (Each-without_unsent (OtherBuffer n) s.unsent app buf)
 
 module _ (limits : Limits) (history : List Entry) (s : State) (app n : ℕ) where
-  -- by this call, where it gives no buffer of this number
+  -- by this call, if it gives no buffer of this number
   abbrev ByCall : Call → BusAnswer × State → Type 0
   ByCall call made = gives_buffer n (record { app = app; call = call; answer = made.0 }) ≡ false → From n s made.1
 

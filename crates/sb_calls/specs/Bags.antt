@@ -45,7 +45,7 @@ KeepsOtherBags old new app =
     (other : ℕ) (bag : Holding LentBytes) → other ≢ app → HasBag old other bag →
     HasBag new other bag
 
--- the last message of an application's pipe, where the pipe is live and has one
+-- the last message of an application's pipe, if the pipe is live and has one
 abbrev pub last_message : State → ℕ → ℕ → Option (List ℕ)
 last_message s app pipe =
     if owns s.pipes app pipe then option_map (λ item. item.message) (last_on s.pipes pipe) else None

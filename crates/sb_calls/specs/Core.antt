@@ -68,7 +68,7 @@ pub record Does (old new : Core) (app : ℕ) (call : Call) (answer : BusAnswer) 
   pub legal : IsLegalCore new
   pub noted : IsNoted new
 
--- a look does what the bus does; where it finds the application still waiting, nothing changes
+-- a look does what the bus does; if it finds the application still waiting, nothing changes
 abbrev pub Looks : Core → Core → ℕ → ℕ → Pended → Type 0
 Looks old new app pipe Pending =
     (new ≡ old) ×

@@ -31,7 +31,7 @@ impl<'r> BusCore<'r> {
     ///
     /// # Errors
     /// `BadArgument` for fewer than 7 bytes, which no message has; `MsgTooBig` for more than the
-    /// configuration allows; `BufAlocErr` where the bus's pool has no block for so many bytes. The
+    /// configuration allows; `BufAlocErr` if the bus's pool has no block for so many bytes. The
     /// first that applies.
     pub fn allocate<L: Ledger>(
         &mut self,
@@ -67,14 +67,14 @@ impl<'r> BusCore<'r> {
     /// Sends the message that the caller's buffer begins with, as many bytes as its header says
     /// (CCSDS 133.0-B, 4.1.3.5), as `transmit` does, but without a copy: the buffer leaves the bag,
     /// and its receivers get views of its block, under the buffer's number. With `inc` the message
-    /// gets its id's next sequence count. Where nobody subscribes to the id, it goes nowhere, and
-    /// is answered with number 0; where somebody does and no pipe takes it, with its own number;
+    /// gets its id's next sequence count. If nobody subscribes to the id, it goes nowhere, and
+    /// is answered with number 0; if somebody does and no pipe takes it, with its own number;
     /// the block goes back to the pool in both. How large it is was tested when the buffer was
     /// given. At most 4 steps for each subscription of the id, 8 more for each whose pipe drops
     /// a message, and 32 more. The call stands in the journal with all bytes of the buffer.
     ///
     /// # Errors
-    /// `BufferInvalid` where the caller has no unsent buffer of this number; `BadArgument` where
+    /// `BufferInvalid` if the caller has no unsent buffer of this number; `BadArgument` if
     /// the buffer's bytes begin with no message. The first that applies; the buffer stays then.
     pub fn transmit_buffer<L: Ledger>(
         &mut self,
@@ -121,7 +121,7 @@ impl<'r> BusCore<'r> {
     /// pool. At most 32 steps.
     ///
     /// # Errors
-    /// `BufferInvalid` where the caller has no unsent buffer of this number.
+    /// `BufferInvalid` if the caller has no unsent buffer of this number.
     pub fn release<L: Ledger>(
         &mut self,
         app: AppNo,

@@ -28,7 +28,7 @@ impl<'r> BusCore<'r> {
     /// each whose pipe drops a message, and 32 more.
     ///
     /// # Errors
-    /// `MsgTooBig` where the configuration allows no 64 bytes; `BufAlocErr` where somebody
+    /// `MsgTooBig` if the configuration allows no 64 bytes; `BufAlocErr` if somebody
     /// subscribes to the id, and the bus's pool has no block for them. The first that applies.
     pub fn send_housekeeping<L: Ledger>(
         &mut self,

@@ -33,13 +33,13 @@ impl<'r> BusCore<'r> {
         self.noted.push(&entry, Note::Nothing);
     }
 
-    /// Sends an event (`CFE_EVS_SendEvent`): where none of the caller's filters keeps it back, it
+    /// Sends an event (`CFE_EVS_SendEvent`): if none of the caller's filters keeps it back, it
     /// goes into the log with the first 122 bytes of its text. An event that is kept back is
     /// answered as one that isn't. The call stands in the journal with all of the text, at most 200
     /// bytes.
     ///
     /// # Errors
-    /// `AppNotRegistered` where the caller isn't registered.
+    /// `AppNotRegistered` if the caller isn't registered.
     pub fn send_event(
         &mut self,
         app: AppNo,
@@ -65,7 +65,7 @@ impl<'r> BusCore<'r> {
     /// Has the caller's filter for an event id count from 0 again (`CFE_EVS_ResetFilter`).
     ///
     /// # Errors
-    /// `AppNotRegistered` where the caller isn't registered; `EvtNotRegistered` where it has no
+    /// `AppNotRegistered` if the caller isn't registered; `EvtNotRegistered` if it has no
     /// filter for the id. The first that applies.
     pub fn reset_filter(&mut self, app: AppNo, id: u16) -> Result<(), EvsStatus>
         requires may { MayCall self.old app (Call.ResetFilter id) }

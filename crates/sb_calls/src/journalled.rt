@@ -57,7 +57,7 @@ impl<'r> BusCore<'r> {
     /// The blocks of its pool are cut from the region, which has at least the pool's bytes.
     ///
     /// # Errors
-    /// Where memory runs out.
+    /// If memory runs out.
     pub fn new(
         alloc: Global,
         cfg: &Config,
@@ -126,8 +126,8 @@ impl<'r> BusCore<'r> {
         self.noted.journal()
     }
 
-    /// What was noted beside the journal's entry of this number, from 0: where its call gave a
-    /// message, the loan of the view that was given; where it gave a buffer, the descriptor of the
+    /// What was noted beside the journal's entry of this number, from 0: if its call gave a
+    /// message, the loan of the view that was given; if it gave a buffer, the descriptor of the
     /// block; else nothing.
     pub fn note(&self, i: u32) -> Note
         requires { i < length self.now.log.entries }
@@ -154,8 +154,8 @@ impl<'r> BusCore<'r> {
     }
 
     /// The blocks of messages and buffers: one for each number that is held, and no others. Each is
-    /// lent by the loan that was noted where its message was given, or has the descriptor that was
-    /// noted where the buffer was.
+    /// lent by the loan that was noted if its message was given, or has the descriptor that was
+    /// noted if the buffer was.
     pub fn desk(&self) -> &Desk<'r>
         ensures blocks { AreBlocks result.now (state_of self.now).pipes (loans_of self.now)
             (state_of self.now).unsent (descs_of self.now) }

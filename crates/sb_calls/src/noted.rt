@@ -40,7 +40,7 @@ impl NotedJournal {
     /// Without an entry, for the applications that have these budgets.
     ///
     /// # Errors
-    /// Where memory runs out.
+    /// If memory runs out.
     pub(crate) fn new(alloc: Global, budgets: &[Budget]) -> Result<NotedJournal, AllocError>
         requires { AreBudgets budgets.now }
         ensures { IfOk result
@@ -96,7 +96,7 @@ impl NotedJournal {
     }
 }
 
-/// What is noted of a call that was so answered: where it gave a message, the loan of the view that
+/// What is noted of a call that was so answered: if it gave a message, the loan of the view that
 /// the bag has of the pipe.
 pub(crate) fn note_of(answer: &BusAnswer, held: &Held<'_>, pipe: u32) -> Note
     ensures { result ≡ note_seen answer.now (view_at held.now pipe) }
@@ -107,7 +107,7 @@ pub(crate) fn note_of(answer: &BusAnswer, held: &Held<'_>, pipe: u32) -> Note
     }
 }
 
-/// What is noted of a request for a buffer that was so answered: where one was given, the number of
+/// What is noted of a request for a buffer that was so answered: if one was given, the number of
 /// its block's descriptor.
 pub(crate) fn note_of_buffer(told: &Result<u32, SbStatus>, held: &Held<'_>) -> Note
     ensures { result ≡ note_told told.now (buffer_at held.now) }
@@ -121,7 +121,7 @@ pub(crate) fn note_of_buffer(told: &Result<u32, SbStatus>, held: &Held<'_>) -> N
     }
 }
 
-/// All bytes of the bag's buffer of a number; none where it has no such buffer.
+/// All bytes of the bag's buffer of a number; none if it has no such buffer.
 pub(crate) fn bytes_of<'a>(held: &'a Held<'_>, buf: u32) -> &'a [u8]
     ensures { result.now ≡ bytes_at held.now buf }
 {

@@ -10,12 +10,12 @@ use fsw_base::{AppNo, MAX_MESSAGE_BYTES, MAX_NAME_BYTES, MAX_TEXT_BYTES};
 
 impl BusCore<'_> {
     /// Whether the application may make this call now, which is the condition of the call, beside
-    /// those on its bag where it takes one along (that the bag is its own and, for an allocation,
+    /// those on its bag if it takes one along (that the bag is its own and, for an allocation,
     /// that it has room for a buffer more): the core serves it, it is active (for a look, it waits
     /// on that pipe; for its end, it hasn't ended), it has an entry and the call's bytes left, and
     /// a name has at most 64 bytes, a message at most 65542, an event's text at most 200, and a log
     /// mode is 0 or 1. A buffer's transmission is asked for with the bytes that the bag has of the
-    /// buffer, none where it has no such buffer.
+    /// buffer, none if it has no such buffer.
     pub fn may_make(&self, app: AppNo, call: &BusCall<'_>) -> bool
         ensures { IsTrue result ↔ MayCall self.now app (call_of call.now) }
     {

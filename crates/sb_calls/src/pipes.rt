@@ -19,8 +19,8 @@ impl<'r> BusCore<'r> {
     ///
     /// # Errors
     /// `BadArgument` for a depth of 0 or past the configuration's, and for a name that hasn't 1 to
-    /// 19 bytes; `MaxPipesMet` where as many pipes are live as the configuration allows;
-    /// `PipeCrErr` where a live pipe has the name. The first that applies.
+    /// 19 bytes; `MaxPipesMet` if as many pipes are live as the configuration allows;
+    /// `PipeCrErr` if a live pipe has the name. The first that applies.
     pub fn create_pipe(&mut self, app: AppNo, depth: u32, name: &[u8]) -> Result<u32, SbStatus>
         requires may { MayCall self.old app (Call.Create depth name.now) }
         ensures does { Does self.old self.new app (Call.Create depth name.now) (numbered result) }
@@ -112,7 +112,7 @@ impl<'r> BusCore<'r> {
     /// Answers the number of the live pipe of this name, whoever's it is.
     ///
     /// # Errors
-    /// `BadArgument` where no live pipe has the name.
+    /// `BadArgument` if no live pipe has the name.
     pub fn find_pipe(&mut self, app: AppNo, name: &[u8]) -> Result<u32, SbStatus>
         requires may { MayCall self.old app (Call.Find name.now) }
         ensures does { Does self.old self.new app (Call.Find name.now) (numbered result) }

@@ -23,7 +23,7 @@ impl<'r> BusCore<'r> {
     /// number. Pools are numbered 1, 2, 3 and so on, up to 8, and none is ever deleted.
     ///
     /// # Errors
-    /// `ErrMemBlockSize` where 8 pools exist, and where `bytes` is more than the configuration
+    /// `ErrMemBlockSize` if 8 pools exist, and if `bytes` is more than the configuration
     /// allows, or too few for a block of the smallest size.
     pub fn pool_create(&mut self, app: AppNo, bytes: u32) -> Result<u32, EsStatus>
         requires may { MayCall self.old app (Call.PoolCreate bytes) }
@@ -45,7 +45,7 @@ impl<'r> BusCore<'r> {
     /// numbered 1, 2, 3 and so on, and no number is used again. At most 8 steps.
     ///
     /// # Errors
-    /// `NoPool` where no pool of this number was created; `ErrMemBlockSize` where no block size is
+    /// `NoPool` if no pool of this number was created; `ErrMemBlockSize` if no block size is
     /// large enough, or the pool has no room for one more block of the smallest that is. The first
     /// that applies.
     pub fn pool_get<L: Ledger>(
@@ -74,8 +74,8 @@ impl<'r> BusCore<'r> {
     /// The pool counts a return that it refuses. At most 8 steps.
     ///
     /// # Errors
-    /// `NoPool` where no pool of this number was created; `BufferNotInPool` where the pool never
-    /// gave the grant; `PoolBlockInvalid` where the grant came back before. The first that applies.
+    /// `NoPool` if no pool of this number was created; `BufferNotInPool` if the pool never
+    /// gave the grant; `PoolBlockInvalid` if the grant came back before. The first that applies.
     pub fn pool_put<L: Ledger>(
         &mut self,
         app: AppNo,
@@ -102,7 +102,7 @@ impl<'r> BusCore<'r> {
     /// never cut.
     ///
     /// # Errors
-    /// `NoPool` where no pool of this number was created.
+    /// `NoPool` if no pool of this number was created.
     pub fn pool_stats(&mut self, app: AppNo, pool: u32) -> Result<PoolStats, EsStatus>
         requires may { MayCall self.old app (Call.PoolFigures pool) }
         ensures does { Does self.old self.new app (Call.PoolFigures pool) (figures_told result) }

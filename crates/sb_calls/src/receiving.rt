@@ -24,11 +24,11 @@ use step_count::{Ledger, Steps};
 impl<'r> BusCore<'r> {
     /// Takes the oldest message that waits on the caller's pipe, and answers its number: its view
     /// is put into the caller's bag, and its loan is noted. The last message received from the pipe
-    /// is let go, also where none waits: its view is taken out of the bag, and where no other pipe
+    /// is let go, also if none waits: its view is taken out of the bag, and if no other pipe
     /// names it, its block goes back to the pool. At most 32 steps.
     ///
     /// # Errors
-    /// `BadArgument` for a pipe that isn't live or isn't the caller's; `NoMessage` where none
+    /// `BadArgument` for a pipe that isn't live or isn't the caller's; `NoMessage` if none
     /// waits. The first that applies.
     pub fn receive<L: Ledger>(
         &mut self,
@@ -62,10 +62,10 @@ impl<'r> BusCore<'r> {
     }
 
     /// Takes the oldest message that waits on the caller's pipe, and answers its number: its view
-    /// is put into the caller's bag, and its loan is noted. Where none waits, it is a time-out if
+    /// is put into the caller's bag, and its loan is noted. If none waits, it is a time-out if
     /// every other application has ended or waits on an empty pipe; otherwise the caller waits on
     /// the pipe from then on, and looks again by [`BusCore::look`]. The last message received from
-    /// the pipe is let go in each case: its view is taken out of the bag, and where no other pipe
+    /// the pipe is let go in each case: its view is taken out of the bag, and if no other pipe
     /// names it, its block goes back to the pool. At most 32 steps.
     ///
     /// # Errors
@@ -101,7 +101,7 @@ impl<'r> BusCore<'r> {
     }
 
     /// Whether an application that waits would be answered if it looked now: a message is on its
-    /// pipe, or it is a time-out. Where this is false, each look would be in vain.
+    /// pipe, or it is a time-out. If this is false, each look would be in vain.
     pub fn has_news(&self) -> bool
         ensures told { result ≡ has_news (state_of self.now) }
         ensures none { result ≡ false → (app : ℕ)
@@ -118,7 +118,7 @@ impl<'r> BusCore<'r> {
 
     /// Looks again for a message on the pipe that the caller waits on. The view of a message is put
     /// into the caller's bag, and its loan is noted. With a message or a time-out the caller makes
-    /// calls again. Where it still waits, nothing changes and no entry is made.
+    /// calls again. If it still waits, nothing changes and no entry is made.
     pub fn look(&mut self, app: AppNo, held: &mut Held<'r>) -> Pended
         requires may { MayCall self.old app
             (Look (waited_on (standing_of (state_of self.old) app))) }

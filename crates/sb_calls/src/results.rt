@@ -8,7 +8,7 @@ use bus_words::BusAnswer;
 /// What an accepted send was answered.
 #[derive(Clone, Copy, Debug, PartialEq, Eq)]
 pub struct Sent {
-    /// The number of the message, from 1; 0 where nobody subscribes to its id.
+    /// The number of the message, from 1; 0 if nobody subscribes to its id.
     pub number: u32,
     /// How many pipes it reached.
     pub reached: u32,

@@ -18,7 +18,7 @@ use step_count::{Ledger, Steps};
 
 impl<'r> BusCore<'r> {
     /// Sends a message to every pipe that is subscribed to its id, in order of subscription. A pipe
-    /// misses it that ignores what its owner sends and whose owner is the sender; else one where as
+    /// misses it that ignores what its owner sends and whose owner is the sender; else one if as
     /// many messages of the subscription wait as its limit says; else one that is full and hasn't
     /// option 0x02. A full pipe with option 0x02 drops the message that waits longest and takes
     /// this one. With `inc` the message gets the id's next sequence count (CCSDS 133.0-B,
@@ -28,7 +28,7 @@ impl<'r> BusCore<'r> {
     ///
     /// # Errors
     /// `BadArgument` for bytes that are no message; `MsgTooBig` for more bytes than the
-    /// configuration allows; `BufAlocErr` where somebody subscribes to the id, and the bus's pool
+    /// configuration allows; `BufAlocErr` if somebody subscribes to the id, and the bus's pool
     /// has no block for so many bytes. The first that applies.
     pub fn transmit<L: Ledger>(
         &mut self,

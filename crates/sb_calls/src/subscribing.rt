@@ -14,14 +14,14 @@ use lend_block::Note;
 use step_count::{Ledger, Steps};
 
 impl<'r> BusCore<'r> {
-    /// Has messages of this id queued on the caller's pipe, up to `limit` of them at once. Where
+    /// Has messages of this id queued on the caller's pipe, up to `limit` of them at once. If
     /// the pipe is subscribed to the id already, the bus tells and counts that, and nothing else
     /// changes. At most 2 steps for each subscription of the id, and 10 more.
     ///
     /// # Errors
     /// `BadArgument` for an id that isn't 1 to 0x1FFF, and for a pipe that isn't live or isn't the
-    /// caller's; `MaxMsgsMet` where the id has no route and as many ids have one as the
-    /// configuration allows; `MaxDestsMet` where the id has as many subscriptions as the
+    /// caller's; `MaxMsgsMet` if the id has no route and as many ids have one as the
+    /// configuration allows; `MaxDestsMet` if the id has as many subscriptions as the
     /// configuration allows. The first that applies.
     pub fn subscribe<L: Ledger>(
         &mut self,
@@ -55,7 +55,7 @@ impl<'r> BusCore<'r> {
     }
 
     /// Has no more messages of this id queued on the caller's pipe. Those that wait
-    /// stay. Where the pipe isn't subscribed to the id, the bus tells that, and nothing else
+    /// stay. If the pipe isn't subscribed to the id, the bus tells that, and nothing else
     /// changes. At most 3 steps for each subscription of the id, and 10 more.
     ///
     /// # Errors

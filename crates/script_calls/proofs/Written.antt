@@ -5,7 +5,7 @@ use Rattle.std.proofs.Math.Path.{fun_ext}
 use Rattle.script_runs.specs.Written.{with_buffer, with_bytes}
 use Rattle.script_calls.specs.Rows.{Row, row_changed, rows_changed, written_in}
 
--- the bytes of a number, where the first row has it or not
+-- the bytes of a number, if the first row has it or not
 first_row : (row : Row) (rows : List Row) (number : ℕ) (b : Bool) → (row.number == number) ≡ b →
     written_in (row ∷ rows) number ≡ cond {A = Option (List ℕ)} b (Some row.text) (written_in rows number)
 first_row row rows number true is = ap (λ b. option_map (λ (r : Row). r.text) (cond {A = Option Row} b (Some row) (find (λ r. r.number == number) rows))) is

@@ -82,7 +82,7 @@ impl Buffers {
         }
     }
 
-    /// The bytes of the buffer of a number; none where there is none.
+    /// The bytes of the buffer of a number; none if there is none.
     pub fn bytes(&self, number: u32) -> &[u8]
         ensures { result.now ≡ bytes_in (written_in self.now) number }
     {
@@ -92,7 +92,7 @@ impl Buffers {
     /// Writes what a line writes that no service sees; nothing for all but `form` and `put`.
     ///
     /// # Errors
-    /// `AllocError` where memory runs out.
+    /// `AllocError` if memory runs out.
     #[tactic(auto, unfolding(script_runs::specs::Written::written_by))]
     pub fn write(
         &mut self,
@@ -121,7 +121,7 @@ impl Buffers {
     /// back is gone, as all are at the end.
     ///
     /// # Errors
-    /// `AllocError` where memory runs out.
+    /// `AllocError` if memory runs out.
     pub fn settle(
         &mut self,
         alloc: Global,
@@ -188,7 +188,7 @@ impl Buffers {
     }
 }
 
-// The bytes of the buffer of a number; none where there is none.
+// The bytes of the buffer of a number; none if there is none.
 fn bytes_in(rows: &[Buffer], number: u32) -> &[u8]
     ensures { result.now ≡ bytes_in (written_in rows.now) number }
 {
@@ -234,7 +234,7 @@ fn form_rows(
     Ok(())
 }
 
-// The buffer of a number has these bytes from an offset on, where they fit.
+// The buffer of a number has these bytes from an offset on, if they fit.
 fn put(rows: &mut [Buffer], number: u32, offset: u32, bytes: &[u8])
     ensures { written_in rows.new ≡
         with_bytes (written_in rows.old) number (λ old. put_in old offset bytes.now) }
@@ -286,7 +286,7 @@ fn retain_others(rows: &mut Vec<Buffer>, number: u32)
     rows.retain(|row| row.number != number);
 }
 
-// Writes the bytes from an offset on, where they fit.
+// Writes the bytes from an offset on, if they fit.
 fn put_in(target: &mut Vec<u8>, offset: u32, bytes: &[u8])
     ensures { target.new.items ≡ put_in target.old.items offset bytes.now }
 {

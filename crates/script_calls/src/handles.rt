@@ -37,7 +37,7 @@ impl Handles {
         }
     }
 
-    /// The number in a register; 0 where there is no such register.
+    /// The number in a register; 0 if there is no such register.
     pub fn at(&self, register: u32) -> u32
         ensures { result ≡ slice_index self.now register }
     {

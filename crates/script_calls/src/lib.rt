@@ -26,7 +26,7 @@
 //! - `Buffers` has the bytes that lines wrote: after a line that no service sees (`write`), and
 //!   after an answer of the bus (`settle`).
 //!
-//! Not claimed: what is left of the buffers where memory runs out; speed. A buffer is looked for
+//! Not claimed: what is left of the buffers if memory runs out; speed. A buffer is looked for
 //! among all that the application has.
 #![tactic(auto)]
 

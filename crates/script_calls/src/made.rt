@@ -15,7 +15,7 @@ use std::alloc::{AllocError, Global};
 /// `send` line, and the buffer of an `xmit` line as it was written; none for other lines.
 ///
 /// # Errors
-/// `AllocError` where memory runs out.
+/// `AllocError` if memory runs out.
 #[tactic(auto, unfolding(crate::specs::Made::made_bytes))]
 pub fn made_bytes(
     alloc: Global,
@@ -38,7 +38,7 @@ pub fn made_bytes(
 /// The content of a load; none for other lines.
 ///
 /// # Errors
-/// `AllocError` where memory runs out.
+/// `AllocError` if memory runs out.
 #[tactic(auto, unfolding(crate::specs::Made::content_made))]
 pub fn content_made(alloc: Global, line: &Line) -> Result<Vec<u8>, AllocError>
     ensures { IfOk result (λ made. made.items ≡ content_made line.now) }

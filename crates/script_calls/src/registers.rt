@@ -55,28 +55,28 @@ impl Registers {
         }
     }
 
-    /// The number in a register of pipes; 0 where there is no such register.
+    /// The number in a register of pipes; 0 if there is no such register.
     pub fn pipe(&self, register: u32) -> u32
         ensures { result ≡ slice_index self.now.pipes register }
     {
         value_in(&self.pipes, register)
     }
 
-    /// The number in a register of buffers; 0 where there is no such register.
+    /// The number in a register of buffers; 0 if there is no such register.
     pub fn buffer(&self, register: u32) -> u32
         ensures { result ≡ slice_index self.now.buffers register }
     {
         value_in(&self.buffers, register)
     }
 
-    /// The number in a register of pools; 0 where there is no such register.
+    /// The number in a register of pools; 0 if there is no such register.
     pub fn pool(&self, register: u32) -> u32
         ensures { result ≡ slice_index self.now.pools register }
     {
         value_in(&self.pools, register)
     }
 
-    /// The number in a register of grants; 0 where there is no such register.
+    /// The number in a register of grants; 0 if there is no such register.
     pub fn grant(&self, register: u32) -> u32
         ensures { result ≡ slice_index self.now.grants register }
     {
@@ -99,7 +99,7 @@ impl Registers {
     }
 }
 
-/// The number at a place; 0 where there is no such place.
+/// The number at a place; 0 if there is no such place.
 pub(crate) fn value_in(numbers: &[u32], place: u32) -> u32
     ensures { result ≡ slice_index numbers.now place }
 {
@@ -109,7 +109,7 @@ pub(crate) fn value_in(numbers: &[u32], place: u32) -> u32
     }
 }
 
-/// Puts a number at a place, where there is that place.
+/// Puts a number at a place, if there is that place.
 pub(crate) fn set(numbers: &mut [u32], place: u32, number: u32)
     ensures { numbers.new ≡ slice_set numbers.old place number }
 {

@@ -119,7 +119,7 @@ name_in word visible =
     decides (λ name. is_name name ≡ true) (is_same word (codes "-")) (Ok []) _ (λ h. refl)
     (λ other. guard (λ name. is_name name ≡ true) (nat_le (length word) 64) word OutOfRange (λ short. both (both short visible) (ap not other)))
 
--- no filling only where the word spells bytes
+-- no filling only if the word spells bytes
 pub filling_in : (word : Word) → Holds (λ filling. filling ≡ None → is_hex word ≡ true) (filling_of word)
 unfolding filling_of
 filling_in word =

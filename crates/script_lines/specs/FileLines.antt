@@ -18,13 +18,13 @@ abbrev pub image_calls : ℕ → List ℕ → ℕ → List ℕ → Line × Line
 image_calls handle name offset bytes =
     (lines.TableShare handle name, lines.Stage handle offset (Hex bytes))
 
--- these two, where a script can spell the name, which a hyphen alone isn't, and the offset
+-- these two, if a script can spell the name, which a hyphen alone isn't, and the offset
 unfoldable pub spelled_image : ℕ → List ℕ → ℕ → List ℕ → Result (Line × Line) FaultKind
 spelled_image handle name offset bytes =
     if is_same name (codes "-") || nat_lt 65536 offset then Err BadImage
     else Ok (image_calls handle name offset bytes)
 
--- the two call lines of a file, where it is a table image
+-- the two call lines of a file, if it is a table image
 unfoldable pub file_calls : ℕ → List ℕ → Result (Line × Line) FaultKind
 file_calls handle file =
     elim (image_fault file) [

@@ -64,7 +64,7 @@ fn memory_or_event(word: &[u8]) -> Option<CallWord>
     }
 }
 
-/// The word as the first one of a call line; None where no call line begins so.
+/// The word as the first one of a call line; None if no call line begins so.
 #[tactic(auto, unfolding(crate::specs::CallLines::call_word))]
 pub fn call_word(word: &[u8]) -> Option<CallWord>
     ensures { result ≡ call_word word.now }
@@ -79,7 +79,7 @@ pub fn call_word(word: &[u8]) -> Option<CallWord>
 ///
 /// # Errors
 /// The line's first fault: `WrongCount` before `BadWord` before `OutOfRange` before `Repeated`,
-/// wherever in the line they stand. `Memory` where there is none for its names, texts and bytes.
+/// wherever in the line they stand. `Memory` if there is none for its names, texts and bytes.
 #[tactic(auto, unfolding(crate::specs::CallLines::call_line_of))]
 pub fn call_line(alloc: Global, first: CallWord, rest: &[u8]) -> Result<Line, LineFail>
     ensures { Gives (λ line. line) result (call_line_of first rest.now) }

@@ -82,7 +82,7 @@ fn pairs(words: &[u8]) -> Result<ArrayVec<(u32, u32), MAX_FILTERS>, FaultKind>
     Ok(pairs)
 }
 
-// An event id and a mask, where they are two bytes each.
+// An event id and a mask, if they are two bytes each.
 #[tactic(auto, unfolding(crate::specs::EventLines::filter_of))]
 fn filter(pair: (u32, u32)) -> Result<(u16, u16), FaultKind>
     ensures { Reads (λ pair. pair) result (filter_of pair) }
@@ -161,7 +161,7 @@ fn kind(number: u32) -> Result<EventKind, FaultKind>
     }
 }
 
-// The text, where it is short enough.
+// The text, if it is short enough.
 #[tactic(auto, unfolding(crate::specs::EventLines::text_of))]
 fn text_within(alloc: Global, text: &[u8]) -> Result<ByteText, LineFail>
     ensures { Gives (λ kept. kept) result (text_of text.now) }

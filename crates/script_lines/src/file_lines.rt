@@ -14,7 +14,7 @@ use script_words::{ByteText, Content, LineFail};
 use std::alloc::Global;
 use tbl_file::{Image, read_image};
 
-// The two call lines of an image, where a script can spell its name and its offset.
+// The two call lines of an image, if a script can spell its name and its offset.
 #[tactic(auto, unfolding(crate::specs::FileLines::spelled_image))]
 fn spelled_image(alloc: Global, handle: u32, image: &Image<'_>) -> Result<(Line, Line), LineFail>
     ensures { Gives (λ calls. calls) result
@@ -34,7 +34,7 @@ fn spelled_image(alloc: Global, handle: u32, image: &Image<'_>) -> Result<(Line,
     Ok((share, stage))
 }
 
-// The two call lines of a file, where it is a table image.
+// The two call lines of a file, if it is a table image.
 #[tactic(auto, unfolding(crate::specs::FileLines::file_calls))]
 fn file_calls(alloc: Global, handle: u32, file: &[u8]) -> Result<(Line, Line), LineFail>
     requires { length file.now ≤ 256 }
@@ -52,7 +52,7 @@ fn file_calls(alloc: Global, handle: u32, file: &[u8]) -> Result<(Line, Line), L
 /// # Errors
 /// The line's first fault: `WrongCount` before `BadWord` before `BadImage`, which is that the file
 /// is no table image, that its name is a hyphen alone, or that its offset is past 65536. `Memory`
-/// where there is none for the file, the name or the bytes.
+/// if there is none for the file, the name or the bytes.
 #[tactic(auto, using(crate::proofs::FileReadings::hex_short), unfolding(crate::specs::FileLines::tfile_of))]
 pub fn table_file(alloc: Global, rest: &[u8]) -> Result<(Line, Line), LineFail>
     ensures { Gives (λ calls. calls) result (tfile_of (words_of rest.now)) }

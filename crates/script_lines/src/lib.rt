@@ -6,7 +6,7 @@
 //! number, register, name and text of a line that is read is in its range.
 //!
 //! ```
-//! /// The call line of a text; None where it is none.
+//! /// The call line of a text; None if it is none.
 //! fn line_of(alloc: Global, text: &[u8]) -> Option<Line> {
 //!     match first_word(text) {
 //!         None => None,

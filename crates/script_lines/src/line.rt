@@ -27,7 +27,7 @@ impl BoxedRules {
     /// These rules.
     ///
     /// # Errors
-    /// `AllocError` where there is no memory for them.
+    /// `AllocError` if there is no memory for them.
     pub fn new(alloc: Global, rules: RuleList) -> Result<BoxedRules, AllocError>
         ensures { IfOk result (λ boxed. boxed ≡ rules) }
     {
@@ -93,9 +93,9 @@ pub enum Line {
         id: u16,
         /// The pipe.
         pipe: u32,
-        /// How many messages of this id may wait in the pipe; 4 where it was left out.
+        /// How many messages of this id may wait in the pipe; 4 if it was left out.
         limit: u32,
-        /// How far the subscription reaches; global where it was left out.
+        /// How far the subscription reaches; global if it was left out.
         scope: Scope,
     },
     /// `unsub ID pN`: ends a subscription (`CFE_SB_Unsubscribe`).

@@ -109,7 +109,7 @@ fn triples(words: &[u8]) -> Result<ArrayVec<(u32, u32, u32), MAX_RULES>, FaultKi
     Ok(triples)
 }
 
-// The rule of these numbers, where they are in range.
+// The rule of these numbers, if they are in range.
 #[tactic(auto, unfolding(crate::specs::TableLines::rule_of))]
 fn rule(triple: (u32, u32, u32)) -> Result<Rule, FaultKind>
     ensures { Reads (λ rule. rule) result (rule_of triple) }

@@ -455,7 +455,7 @@ turn-local limits apps sofar running line others sound agree is has none =
       falls = inl (omega (arith, fewer));
     }
 
--- what follows a call is owed where its answer left the application
+-- what follows a call is owed if its answer left the application
 answer-owed : (call : Call) (answer : BusAnswer) (r : Running) (es : List Entry) → Owes (now_after call answer) (Some r) es → AfterAnswer call answer (Trace r.registers r.written r.lines) es
 answer-owed (calls.Create depth name) answer r es owed = owed
 answer-owed (calls.Delete pipe) answer r es owed = owed

@@ -18,7 +18,7 @@ use Rattle.script_runs.proofs.OneTurn.{IsSound, IsTurn, IsStuck, HasNumber, HasW
 
 -- Who is left. --
 
--- the application of this number, where it hasn't ended
+-- the application of this number, if it hasn't ended
 abbrev pub left_of : List Running → ℕ → Option Running
 left_of [] k = None
 left_of (r ∷ rs) k = cond {A = Option Running} (r.app == k) (Some r) (left_of rs k)
@@ -344,7 +344,7 @@ idle-set pipes (x ∷ xs) zero (suc i) idle = idle (suc i)
 idle-set pipes (x ∷ xs) (suc at) zero idle = idle 0
 idle-set pipes (x ∷ xs) (suc at) (suc i) idle = idle-set pipes xs at i (λ j. idle (suc j))
 
--- where all that are left are stuck, the first look is a time-out
+-- if all that are left are stuck, the first look is a time-out
 not_stuck : (limits : Limits) (apps : ℕ) (sofar : SoFar) (r : Running) (others : List Running) → IsFit limits apps sofar (r ∷ others) → Each (λ q. IsStuck sofar.state q.app) (r ∷ others) → ⊥
 not_stuck limits apps sofar r others fit stuck =
     let s = sofar.state in

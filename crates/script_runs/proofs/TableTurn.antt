@@ -37,7 +37,7 @@ bus_line : (handles : List ℕ) (registers : Registers) (written : Written) (lin
 unfolding call_of table_call_of
 bus_line handles registers written line call is = one_service handles registers written (line_call_of line) call is
 
--- who has ended once this call was made, where one was
+-- who has ended once this call was made, if one was
 abbrev ended_by_option : ℕ → Option Call → List Bool → List Bool
 ended_by_option app None ended = ended
 ended_by_option app (Some call) ended = ended_by app call ended

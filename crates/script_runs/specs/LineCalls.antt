@@ -35,7 +35,7 @@ pub data LineCall : Type 0 where
   NoCall : LineCall
 
 -- The call that a line makes. A buffer is sent with its bytes as they were written, and with none
--- where the application has no such buffer.
+-- if the application has no such buffer.
 unfoldable pub line_call_of : Line → LineCall
 line_call_of (lines.Create pipe depth name) = AtBus (λ registers written. calls.Create depth name)
 line_call_of (lines.Delete pipe) =

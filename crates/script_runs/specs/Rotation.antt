@@ -54,7 +54,7 @@ after_call limits sofar app call = record sofar {
   state = (step limits sofar.history sofar.state app call).1;
 }
 
--- the services after a look so answered: as before where the application still waits
+-- the services after a look so answered: as before if the application still waits
 abbrev pub after_look : Limits → SoFar → ℕ → ℕ → BusAnswer → SoFar
 after_look limits sofar app pipe Pending = sofar
 after_look limits sofar app pipe answer = after_call limits sofar app (Look pipe)
@@ -85,7 +85,7 @@ behind running lines registers written =
 abbrev pub behind_table : Running → List Line → List ℕ → Running
 behind_table running lines handles = record running { lines = lines; handles = handles }
 
--- a turn that runs a line which the bus doesn't see: its call of the tables, where these see it
+-- a turn that runs a line which the bus doesn't see: its call of the tables, if these see it
 abbrev pub other_turn : Limits → SoFar → Running → Line → List Line → Option TableCall → SoFar ×
     List Running
 other_turn limits sofar running line lines None = (
@@ -100,7 +100,7 @@ other_turn limits sofar running line lines (Some call) =
           (handles_after running.handles line answer) ∷ [],
     )
 
--- a turn that runs a line: its call of the bus, where the bus sees it
+-- a turn that runs a line: its call of the bus, if the bus sees it
 abbrev pub line_turn : Limits → SoFar → Running → Line → List Line → Option Call → SoFar ×
     List Running
 line_turn limits sofar running line lines None =
@@ -123,7 +123,7 @@ active_turn limits sofar running [] = (after_end limits sofar running.app, [])
 active_turn limits sofar running (line ∷ lines) =
     line_turn limits sofar running line lines (call_of running.registers running.written line)
 
--- One turn of an application in this standing; and the application, where it goes on.
+-- One turn of an application in this standing; and the application, if it goes on.
 abbrev pub turn_in : Limits → SoFar → Running → Standing → SoFar × List Running
 turn_in limits sofar running (Waiting pipe) = (
   after_look limits sofar running.app pipe (answer_to limits sofar running.app (Look pipe)),

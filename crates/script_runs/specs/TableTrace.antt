@@ -32,7 +32,7 @@ handles_after handles (lines.TableShare handle name) answer =
     slice_set handles handle (handle_of answer)
 handles_after handles line answer = handles
 
--- the entries of a line: none where the tables don't see it, else one of its call
+-- the entries of a line: none if the tables don't see it, else one of its call
 abbrev pub TableLineEntries : Option Call → (TblAnswer → List Entry → Type 0) →
     (List Entry → Type 0) → List Entry → Type 0
 TableLineEntries None Next Same es = Same es

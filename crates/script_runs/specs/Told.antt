@@ -32,7 +32,7 @@ use Rattle.script_runs.specs.Written.{Written, first_written, written_after, wri
 
 -- The bus. --
 
--- the last message of the application's own live pipe of this number, where it has one
+-- the last message of the application's own live pipe of this number, if it has one
 abbrev pub own_last : List Pipe → ℕ → ℕ → Option Item
 own_last pipes app number =
     if owns pipes app number then option_and_then (λ pipe. pipe.last) (pipe_at pipes number)
@@ -51,7 +51,7 @@ seen_from limits history s app (e ∷ es) =
     (if e.app == app then record { entry = e; after = after } ∷ [] else []) ++
     seen_from limits (history ++ e ∷ []) after app es
 
--- the receipt that an entry makes: one where it got a message, which is then the pipe's last
+-- the receipt that an entry makes: one if it got a message, which is then the pipe's last
 abbrev pub got_in : ℕ → State → Call → BusAnswer → List Receipt
 got_in app s (calls.Receive pipe) (Got number) = option_to_list (receipt_in s app pipe)
 got_in app s (calls.Pend pipe) (Got number) = option_to_list (receipt_in s app pipe)
@@ -63,11 +63,11 @@ receipts_of app seen = got_in app seen.after seen.entry.call seen.entry.answer
 
 -- The tables. --
 
--- what the application's own live handle of this number holds, where it holds something
+-- what the application's own live handle of this number holds, if it holds something
 abbrev pub own_hold : Tables → ℕ → ℕ → Option Hold
 own_hold t app handle = if owns_handle t.handles app handle then hold_of t.handles handle else None
 
--- the receipt of what a handle of the application's holds, where it holds something
+-- the receipt of what a handle of the application's holds, if it holds something
 abbrev pub held_in : Tables → ℕ → ℕ → Option Receipt
 held_in t app handle =
     option_map (λ r. Table r.handle r.version r.size r.sum_of_bytes r.head)
@@ -78,7 +78,7 @@ pub record TableSeen : Type 0 where
   pub entry : TableEntry
   pub after : Tables
 
--- an application's entries among those that follow where the tables are so, each with the tables
+-- an application's entries among those that follow if the tables are so, each with the tables
 -- after it
 abbrev pub table_seen_from : Limits → Tables → ℕ → List TableEntry → List TableSeen
 table_seen_from limits t app [] = []
@@ -87,7 +87,7 @@ table_seen_from limits t app (e ∷ es) =
     (if e.app == app then record { entry = e; after = after } ∷ [] else []) ++
     table_seen_from limits after app es
 
--- the receipt that an entry makes: one where it gave an address, of what the handle then holds
+-- the receipt that an entry makes: one if it gave an address, of what the handle then holds
 abbrev pub addressed_in : ℕ → Tables → TableCall → TblAnswer → List Receipt
 addressed_in app t (table_calls.GetAddress handle) (Address told version) =
     option_to_list (held_in t app handle)
@@ -110,7 +110,7 @@ pub record Telling : Type 0 where
   pub table_seen : List TableSeen
 
 -- what a line tells that no service sees: `show` the pipe's last message, or what the handle holds,
--- or nothing where there is none
+-- or nothing if there is none
 unfoldable pub shown : ℕ → State → Tables → Registers → List ℕ → Line → List Receipt
 shown app s t registers handles (ShowPipe pipe) =
     unwrap_or (receipt_in s app (slice_index registers.pipes pipe)) Nothing ∷ []
@@ -119,7 +119,7 @@ shown app s t registers handles (ShowTable handle) =
 shown app s t registers handles line = []
 
 -- the entries from the one on that settles a call so answered: its own, or the look behind it,
--- where it was left waiting
+-- if it was left waiting
 abbrev pub settled_from : BusAnswer → Seen → List Seen → List Seen
 settled_from Pending own others = others
 settled_from answer own others = own ∷ others
@@ -169,20 +169,20 @@ other_told app line None at =
     )
 other_told app line (Some call) at = table_seen_told app line at.table_seen at
 
--- a line, with its call of the bus, where it makes one
+-- a line, with its call of the bus, if it makes one
 abbrev pub line_told : ℕ → Line → Option Call → Telling → List Receipt × Option Telling
 line_told app line None at = other_told app line (table_call_of at.handles line) at
 line_told app line (Some call) at = seen_told app line call at.seen at
 
 -- What the lines tell, from there on: the receipts of the first one, then those of the others from
--- where it left the application.
+-- if it left the application.
 abbrev pub told : ℕ → List Line → Telling → List Receipt
 told app [] at = []
 told app (line ∷ lines) at =
     let first = line_told app line (call_of at.registers at.written line) at in
     first.0 ++ option_map_or (λ now. told app lines now) first.1 []
 
--- before the first line of an application, where a script's run has these histories
+-- before the first line of an application, if a script's run has these histories
 abbrev pub telling_from : ScriptText → Histories → ℕ → Telling
 telling_from script histories app =
     let s = opening script.limits (length script.apps) in

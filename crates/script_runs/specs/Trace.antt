@@ -36,13 +36,13 @@ registers_after registers (lines.PoolGet grant pool size) answer =
     record registers { grants = slice_set registers.grants grant (number_of answer) }
 registers_after registers line answer = registers
 
--- the entries are, where the call was so answered: one look where it waits, and then what follows
+-- the entries are, if the call was so answered: one look if it waits, and then what follows
 abbrev pub AfterAnswer : Call → BusAnswer → (List Entry → Type 0) → List Entry → Type 0
 AfterAnswer (calls.Pend pipe) Pending Rest [] = ⊥
 AfterAnswer (calls.Pend pipe) Pending Rest (e ∷ es) = (e.call ≡ calls.Look pipe) × Rest es
 AfterAnswer call answer Rest es = Rest es
 
--- the entries of a line: none where the bus doesn't see it, else one of its call
+-- the entries of a line: none if the bus doesn't see it, else one of its call
 abbrev pub LineEntries : Option Call → (Call → BusAnswer → List Entry → Type 0) →
     (List Entry → Type 0) → List Entry → Type 0
 LineEntries None Next Same es = Same es

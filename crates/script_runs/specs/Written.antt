@@ -9,7 +9,7 @@ use Rattle.script_lines.specs.declared.line.Line.{Line}
 use Rattle.script_lines.specs.declared.line.Line.TheVariants.{Form, Put}
 use Rattle.script_runs.specs.Messages.{sent_message}
 
--- the bytes of an application's unsent buffer of each number; None where it has none
+-- the bytes of an application's unsent buffer of each number; None if it has none
 abbrev pub Written : Type 0
 Written = ℕ → Option (List ℕ)
 
@@ -17,7 +17,7 @@ Written = ℕ → Option (List ℕ)
 abbrev pub first_written : Written
 first_written = λ number. None
 
--- the bytes of the buffer of this number; none where there is no such buffer
+-- the bytes of the buffer of this number; none if there is no such buffer
 abbrev pub bytes_in : Written → ℕ → List ℕ
 bytes_in written number = option_map_or (λ bytes. bytes) (written number) []
 
@@ -25,7 +25,7 @@ bytes_in written number = option_map_or (λ bytes. bytes) (written number) []
 abbrev pub with_buffer : Written → ℕ → Option (List ℕ) → Written
 with_buffer written number buffer = λ other. if number == other then buffer else written other
 
--- with the bytes of the buffer of this number changed so, where there is one
+-- with the bytes of the buffer of this number changed so, if there is one
 abbrev pub with_bytes : Written → ℕ → (List ℕ → List ℕ) → Written
 with_bytes written number change = with_buffer written number (option_map change (written number))
 
@@ -40,15 +40,15 @@ written_after written (Release buf) Done = with_buffer written buf None
 written_after written End Done = first_written
 written_after written call answer = written
 
--- the bytes with these from an offset on; as they were where these don't fit
+-- the bytes with these from an offset on; as they were if these don't fit
 abbrev pub put_in : List ℕ → ℕ → List ℕ → List ℕ
 put_in old offset bytes =
     if nat_le (offset + length bytes) (length old) then take offset old ++
     (bytes ++ drop (offset + length bytes) old) else old
 
 -- What a line that no service sees writes, with the registers of buffers: `form` makes the whole
--- buffer a message, with a payload that counts up; `put` writes bytes where they fit. Neither does
--- anything where the application has no such buffer.
+-- buffer a message, with a payload that counts up; `put` writes bytes if they fit. Neither does
+-- anything if the application has no such buffer.
 unfoldable pub written_by : Written → List ℕ → Line → Written
 written_by written buffers (Form buf id fill) =
     with_bytes written (slice_index buffers buf) (λ old. sent_message id (length old) fill)

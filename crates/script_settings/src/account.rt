@@ -67,7 +67,7 @@ fn note_size(sizes: &mut [u32; REGISTERS], line: &Line)
     }
 }
 
-// Writes a register's size, where there is that register.
+// Writes a register's size, if there is that register.
 fn set_size(sizes: &mut [u32; REGISTERS], buf: u32, size: u32)
     ensures { sizes.new ≡ slice_set sizes.old buf size }
 {

@@ -6,7 +6,7 @@
 //! the sum of the lines that were counted.
 //!
 //! ```
-//! /// Reads the rest of a `set` line and gives the limit its value; where it is faulty all stay.
+//! /// Reads the rest of a `set` line and gives the limit its value; if it is faulty all stay.
 //! fn configure(config: &mut Config, rest: &[u8]) -> Result<(), FaultKind> {
 //!     let (name, value) = set(rest)?;
 //!     put_limit(config, name, value);

@@ -155,8 +155,8 @@ fn limit_named(word: &[u8]) -> Result<LimitName, FaultKind>
 /// The limit that a `set` line names, and its value, which is in the limit's range.
 ///
 /// # Errors
-/// `WrongCount` unless there are two words; else `BadWord` where the first names no limit or the
-/// second is no number; else `OutOfRange` where the value is outside the limit's range.
+/// `WrongCount` unless there are two words; else `BadWord` if the first names no limit or the
+/// second is no number; else `OutOfRange` if the value is outside the limit's range.
 #[tactic(auto, unfolding(crate::specs::Settings::set_of))]
 pub fn set(rest: &[u8]) -> Result<(LimitName, u32), FaultKind>
     ensures line { Reads (λ x. x) result (set_of (words_of rest.now)) }
@@ -216,7 +216,7 @@ fn numbers(words: &[u8]) -> Result<ArrayVec<u32, MAX_BLOCK_SIZES>, FaultKind>
     Ok(numbers)
 }
 
-// The numbers as block sizes, where they are such.
+// The numbers as block sizes, if they are such.
 #[tactic(auto, unfolding(crate::specs::Settings::sizes_within))]
 fn sizes_within(sizes: &[u32]) -> Result<BlockSizes, FaultKind>
     ensures { Reads (λ sizes. sizes) result (sizes_within sizes.now) }
@@ -230,8 +230,8 @@ fn sizes_within(sizes: &[u32]) -> Result<BlockSizes, FaultKind>
 /// The block sizes of a `sizes` line, in bytes: 1 to 17 multiples of 8 that rise, at most 80000.
 ///
 /// # Errors
-/// `WrongCount` where there is no word or an eighteenth; else `BadWord` where a word is no number;
-/// else `OutOfRange` where the numbers aren't such sizes.
+/// `WrongCount` if there is no word or an eighteenth; else `BadWord` if a word is no number;
+/// else `OutOfRange` if the numbers aren't such sizes.
 #[tactic(auto, unfolding(crate::specs::Settings::sizes_of))]
 pub fn sizes(rest: &[u8]) -> Result<BlockSizes, FaultKind>
     ensures { Reads (λ sizes. sizes) result (sizes_of (words_of rest.now)) }
@@ -246,8 +246,8 @@ pub fn sizes(rest: &[u8]) -> Result<BlockSizes, FaultKind>
 /// 16383.
 ///
 /// # Errors
-/// `WrongCount` unless there are two words; else `BadWord` where one is no number; else
-/// `OutOfRange` where the id or the count is outside its range.
+/// `WrongCount` unless there are two words; else `BadWord` if one is no number; else
+/// `OutOfRange` if the id or the count is outside its range.
 #[tactic(auto, unfolding(crate::specs::Settings::seq_of))]
 pub fn seq(rest: &[u8]) -> Result<(u16, u16), FaultKind>
     ensures line { Reads (λ x. x) result (seq_of (words_of rest.now)) }
@@ -287,7 +287,7 @@ fn is_app_name(word: &[u8]) -> bool
 /// The application's name that an `app` line gives: 1 to 19 letters, digits or underscores.
 ///
 /// # Errors
-/// `WrongCount` unless there is one word; else `BadWord` where it is no such name.
+/// `WrongCount` unless there is one word; else `BadWord` if it is no such name.
 #[tactic(auto, unfolding(crate::specs::Settings::app_of))]
 pub fn app(rest: &[u8]) -> Result<&[u8], FaultKind>
     ensures { Reads (λ word. word.now) result (app_of (words_of rest.now)) }
@@ -303,8 +303,8 @@ pub fn app(rest: &[u8]) -> Result<&[u8], FaultKind>
 /// The version of the language that a `script` line names, 1 or 2.
 ///
 /// # Errors
-/// `WrongCount` unless there is one word; else `BadWord` where it is no number; else `OutOfRange`
-/// where it is another version.
+/// `WrongCount` unless there is one word; else `BadWord` if it is no number; else `OutOfRange`
+/// if it is another version.
 #[tactic(auto, unfolding(crate::specs::Settings::script_of))]
 pub fn version(rest: &[u8]) -> Result<u32, FaultKind>
     ensures line { Reads (λ version. version) result (script_of (words_of rest.now)) }

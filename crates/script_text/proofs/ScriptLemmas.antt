@@ -18,7 +18,7 @@ use Rattle.script_text.proofs.ApplicationLemmas.{lines_few, lines_light}
 
 -- ---- an application of the four
 
--- its name and its lines can be those of a text, where its number is one digit
+-- its name and its lines can be those of a text, if its number is one digit
 application_in : (app number : ℕ) → is_app_name (71 ∷ decimal app) ≡ true → list_all is_readable (first_lines app) ≡ true → is_application (application app number).0 ≡ true
 unfolding application
 application_in app number named first = ap (λ b. b && list_all is_readable (first_lines app ++ (actions 250 number).0)) named ∙ all_both is_readable (first_lines app) (actions 250 number).0 first (actions_readable 250 number)
@@ -31,7 +31,7 @@ light : (app number : ℕ) → app < 10 → (account_of (application app number)
 unfolding application
 light app number digit = lines_light app number digit
 
--- its lines before the actions can be those of a text, where they can be with the digit in its place
+-- its lines before the actions can be those of a text, if they can be with the digit in its place
 first_in : (app : ℕ) → app < 10 → list_all is_readable (Create 0 8 (80 ∷ (48 + app) ∷ []) ∷ Subscribe (id_of app) 0 4 Global ∷ Subscribe (id_of (app % 4 + 1)) 0 4 Global ∷ []) ≡ true
     → list_all is_readable (first_lines app) ≡ true
 unfolding first_lines

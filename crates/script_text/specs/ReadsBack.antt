@@ -1,4 +1,4 @@
--- What a text is read as, where it is a call line.
+-- What a text is read as, if it is a call line.
 use Rattle.std.specs.Prelude.{◌≡◌, ℕ, ◌≤◌, List, ◌∷◌, length, Some, Ok, IsTrue}
 use Rattle.std.specs.List.{list_all}
 use Rattle.script_words.specs.Text.{is_text, words_of, behind_word}

@@ -26,12 +26,12 @@ limit_word Handles = codes "handles"
 limit_word TableMax = codes "tablemax"
 limit_word TablePool = codes "tablepool"
 
--- the line of the version, where it isn't 1
+-- the line of the version, if it isn't 1
 unfoldable pub version_lines : ℕ → List (List ℕ)
 version_lines version =
     if version == 1 then [] else (spaced (codes "script" ∷ decimal version ∷ []) ∷ [])
 
--- the line that sets a limit, where it isn't the usual one
+-- the line that sets a limit, if it isn't the usual one
 unfoldable pub set_lines_of : LimitName → ℕ → List (List ℕ)
 set_lines_of name value =
     if value == limit_of usual_limits name then []
@@ -40,7 +40,7 @@ set_lines_of name value =
 abbrev pub set_lines : Limits → List (List ℕ)
 set_lines limits = flat_map (λ name. set_lines_of name (limit_of limits name)) all_limits
 
--- the line of the block sizes, where they aren't the usual ones
+-- the line of the block sizes, if they aren't the usual ones
 unfoldable pub sizes_lines : List ℕ → List (List ℕ)
 sizes_lines sizes =
     if is_same sizes usual_sizes then [] else (spaced (codes "sizes" ∷ map decimal sizes) ∷ [])

@@ -60,7 +60,7 @@ abbrev pub rule_text : Rule → Word
 rule_text rule =
     decimal rule.offset ++ codes ":" ++ decimal rule.low ++ codes ":" ++ decimal rule.high
 
--- the text of an event, where there is one
+-- the text of an event, if there is one
 abbrev pub text_words : List ℕ → List Word
 text_words [] = []
 text_words (byte ∷ bytes) = (byte ∷ bytes) ∷ []

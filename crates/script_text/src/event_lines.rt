@@ -28,7 +28,7 @@ fn put_filters<K: Sink>(sink: &mut SinkGuard<'_, K>, page: &mut Page, filters: &
     }
 }
 
-/// Puts the line of `event`; it ends behind the type where there is no text.
+/// Puts the line of `event`; it ends behind the type if there is no text.
 pub(crate) fn put_send_event<K: Sink>(
     sink: &mut SinkGuard<'_, K>,
     page: &mut Page,
@@ -44,7 +44,7 @@ pub(crate) fn put_send_event<K: Sink>(
     put_event_text(sink, page, text);
 }
 
-// Puts a text behind a space, where there is one.
+// Puts a text behind a space, if there is one.
 fn put_event_text<K: Sink>(sink: &mut SinkGuard<'_, K>, page: &mut Page, text: &[u8])
     ensures { Puts sink.old sink.new page.old page.new (behind (text_words text.now)) }
 {

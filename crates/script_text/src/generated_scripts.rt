@@ -144,7 +144,7 @@ fn applications(alloc: Global, generator: &mut Generator) -> Result<Vec<App>, Al
 /// or one received. It has at most 3012 call lines. Numbers alike modulo 2^31 have the same script.
 ///
 /// # Errors
-/// `AllocError` where there is no memory for the script.
+/// `AllocError` if there is no memory for the script.
 #[tactic(auto, unfolding(crate::specs::Generated::generated))]
 pub fn generate(alloc: Global, number: u32) -> Result<Script, AllocError>
     ensures { IfOk result (λ script. script ≡ generated number) }

@@ -18,7 +18,7 @@ use text_page::{Page, put};
 
 /// Puts the one spelling of a call line, without a line end: its words with a space between each
 /// two, message ids and masks as `0x` and four hexadecimal digits, bytes as lower-case digits, all
-/// other numbers in decimal, and limit, scope and mode even where a script may leave them out.
+/// other numbers in decimal, and limit, scope and mode even if a script may leave them out.
 ///
 /// By the code, it takes no memory. After a failed write nothing is written any more.
 pub fn print_line<K: Sink>(sink: &mut SinkGuard<'_, K>, page: &mut Page, line: &Line)

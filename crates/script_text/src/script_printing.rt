@@ -17,16 +17,16 @@ use fsw_base::{BlockSizes, Config, CountStarts, Sink, SinkGuard, WriteFault};
 use script_settings::LimitName;
 use text_page::{Page, finish, put, put_hex_id, put_number};
 
-/// Writes the one spelling of a script: the line `script 2` where it has version 2, each setting
+/// Writes the one spelling of a script: the line `script 2` if it has version 2, each setting
 /// that isn't the usual one, then the applications with their call lines, words with a space
-/// between each two and a line feed at each line's end. Where it has at most 1,048,576 bytes, as a
+/// between each two and a line feed at each line's end. If it has at most 1,048,576 bytes, as a
 /// text may, it is read as this script again.
 ///
 /// The sink is given the text in pages of 4096 bytes, of which it may take less at a time. No
 /// memory is taken. No write through this guard may have failed before.
 ///
 /// # Errors
-/// `WriteFault` only where a write failed, so that the sink's count of faults rose in this call (or
+/// `WriteFault` only if a write failed, so that the sink's count of faults rose in this call (or
 /// stands at its last value); the sink then has a front of the text, and after the failed write
 /// nothing more is written.
 pub fn print_script<K: Sink>(script: &Script, sink: &mut SinkGuard<'_, K>) -> Result<(), WriteFault>
@@ -54,7 +54,7 @@ pub fn print_script<K: Sink>(script: &Script, sink: &mut SinkGuard<'_, K>) -> Re
     finish(sink, &mut page)
 }
 
-// Puts the line of the version, where it isn't 1.
+// Puts the line of the version, if it isn't 1.
 fn put_version<K: Sink>(sink: &mut SinkGuard<'_, K>, page: &mut Page, version: u32)
     ensures { Puts sink.old sink.new page.old page.new (ended (version_lines version)) }
 {
@@ -82,7 +82,7 @@ fn put_limits<K: Sink>(sink: &mut SinkGuard<'_, K>, page: &mut Page, config: &Co
     put_limit(sink, page, LimitName::TablePool, config.tablepool);
 }
 
-// Puts the line of a limit, where it isn't the usual one.
+// Puts the line of a limit, if it isn't the usual one.
 fn put_limit<K: Sink>(sink: &mut SinkGuard<'_, K>, page: &mut Page, name: LimitName, value: u32)
     ensures { Puts sink.old sink.new page.old page.new (ended (set_lines_of name value)) }
 {
@@ -95,7 +95,7 @@ fn put_limit<K: Sink>(sink: &mut SinkGuard<'_, K>, page: &mut Page, name: LimitN
     }
 }
 
-// The value of a limit where a script doesn't set it.
+// The value of a limit if a script doesn't set it.
 fn usual_limit(name: LimitName) -> u32
     ensures { result ≡ limit_of usual_limits name }
 {
@@ -133,7 +133,7 @@ fn limit_word(name: LimitName) -> &'static [u8]
     }
 }
 
-// Puts the line of the block sizes, where they aren't the usual ones.
+// Puts the line of the block sizes, if they aren't the usual ones.
 fn put_sizes<K: Sink>(sink: &mut SinkGuard<'_, K>, page: &mut Page, sizes: &BlockSizes)
     ensures { Puts sink.old sink.new page.old page.new (ended (sizes_lines sizes.now)) }
 {

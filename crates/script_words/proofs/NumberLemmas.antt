@@ -32,7 +32,7 @@ numbers_2-many word first second third behind one two =
     let more = parts_some behind in
     rw (one, two, more.2) refl
 
--- a first part and what follows it are three numbers where what follows is two
+-- a first part and what follows it are three numbers if what follows is two
 pub numbers_3-cut : (word first others : List ℕ) → parts_of word ≡ first ∷ parts_of others → numbers_3 (parts_of word) ≡ number_and_2 first (parts_of others)
 unfolding numbers_3
 numbers_3-cut word first others one =

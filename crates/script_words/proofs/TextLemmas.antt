@@ -54,7 +54,7 @@ lines_cut bytes i e =
     ap (λ parts. map without_return (without_empty_last parts)) (cut ∙ ap (λ parts. take i bytes ∷ parts) more.2)
     ∙ ap (λ parts. without_return (take i bytes) ∷ map without_return (without_empty_last parts)) (sym more.2)
 
--- a list where the test never passes is one part
+-- a list if the test never passes is one part
 pub no_cut : (test : ℕ → Bool) (bytes : List ℕ) → position_or_len test bytes ≡ length bytes → slice_split test bytes ≡ bytes ∷ []
 no_cut test [] e = refl
 no_cut test (byte ∷ bytes) e =
@@ -190,7 +190,7 @@ differ_by_length (a ∷ word) (b ∷ other) ne =
       | false ↦ refl
     ]
 
--- two words from a place on: of the same byte there, of different ones, and where both have ended
+-- two words from a place on: of the same byte there, of different ones, and if both have ended
 pub same_more : (word other : List ℕ) (i : ℕ) → i < length word → i < length other → get_or word i 0 ≡ get_or other i 0 → is_same (drop (i + 1) word) (drop (i + 1) other) ≡ is_same (drop i word) (drop i other)
 same_more word other i lt lt_other e =
     let cut : is_same (drop i word) (drop i other) ≡ ((get_or word i 0 == get_or other i 0) && is_same (drop (i + 1) word) (drop (i + 1) other)) = rw (drop_cut word i 0 lt, drop_cut other i 0 lt_other) refl in
@@ -262,7 +262,7 @@ lines_stripped [] all = refl
 lines_stripped (line ∷ lines) all =
     both (text_stripped line (and_first (list_all is_text line) (list_all (list_all is_text) lines) all)) (lines_stripped lines (and_second (list_all is_text line) (list_all (list_all is_text) lines) all))
 
--- where each byte is text or a line feed, each line is text
+-- if each byte is text or a line feed, each line is text
 pub plain_lines : (bytes : List ℕ) → list_all (λ byte. is_text byte || is_feed byte) bytes ≡ true → list_all (list_all is_text) (lines_of bytes) ≡ true
 unfolding lines_of
 plain_lines bytes plain = lines_stripped (without_empty_last (slice_split is_feed bytes)) (kept_parts (slice_split is_feed bytes) (plain_parts bytes plain))

@@ -24,7 +24,7 @@ mode_word word =
     if is_same word (codes "inc") then Ok true
     else (if is_same word (codes "keep") then Ok false else Err BadWord)
 
--- the mode: inc where the word is left out
+-- the mode: inc if the word is left out
 unfoldable pub mode_of : Option Word → Result Bool FaultKind
 mode_of None = Ok true
 mode_of (Some word) = mode_word word
@@ -34,7 +34,7 @@ scope_word word =
     if is_same word (codes "global") then Ok Global
     else (if is_same word (codes "local") then Ok Local else Err BadWord)
 
--- the scope: global where the word is left out
+-- the scope: global if the word is left out
 unfoldable pub scope_of : Option Word → Result Scope FaultKind
 scope_of None = Ok Global
 scope_of (Some word) = scope_word word
@@ -46,7 +46,7 @@ filling_of word =
     then (numbers_2 (parts_of (drop 5 word)) >>= λ fill. Ok (Some fill))
     else (if is_hex word then Ok None else Err BadWord)
 
--- the content that the word spells, where its filling is in range
+-- the content that the word spells, if its filling is in range
 unfoldable pub content_of : Word → Option (ℕ × ℕ) → Result Content FaultKind
 content_of word None = Ok (Hex (hex_bytes word))
 content_of word (Some fill) = do

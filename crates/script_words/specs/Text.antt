@@ -40,7 +40,7 @@ without_empty_last [] = []
 without_empty_last (line ∷ []) = if has_bytes line then (line ∷ []) else []
 without_empty_last (line ∷ next ∷ lines) = line ∷ without_empty_last (next ∷ lines)
 
--- The lines of a script: what stands between its line feeds. Where it ends with one, no line
+-- The lines of a script: what stands between its line feeds. If it ends with one, no line
 -- follows.
 unfoldable pub lines_of : List ℕ → List (List ℕ)
 lines_of bytes = map without_return (without_empty_last (slice_split is_feed bytes))

@@ -24,7 +24,7 @@ impl ByteText {
     /// These bytes.
     ///
     /// # Errors
-    /// `AllocError` where there is no memory for them.
+    /// `AllocError` if there is no memory for them.
     pub fn new(alloc: Global, bytes: &[u8]) -> Result<ByteText, AllocError>
         ensures { IfOk result (λ text. text ≡ bytes.now) }
     {
@@ -35,7 +35,7 @@ impl ByteText {
     /// The bytes that hexadecimal digits spell, two digits a byte.
     ///
     /// # Errors
-    /// `AllocError` where there is no memory for them.
+    /// `AllocError` if there is no memory for them.
     pub fn from_hex(alloc: Global, word: &[u8]) -> Result<ByteText, AllocError>
         ensures { IfOk result (λ text. text ≡ hex_bytes word.now) }
     {

@@ -13,7 +13,7 @@ use fsw_base::FaultKind;
 /// The next word, and the line behind it.
 ///
 /// # Errors
-/// `WrongCount` where no word is left.
+/// `WrongCount` if no word is left.
 #[tactic(auto, unfolding(crate::specs::Counts::next))]
 pub fn next(rest: &[u8]) -> Result<(&[u8], &[u8]), FaultKind>
     ensures { Reads (λ x. (x.0.now, words_of x.1.now)) result (next (words_of rest.now)) }
@@ -24,10 +24,10 @@ pub fn next(rest: &[u8]) -> Result<(&[u8], &[u8]), FaultKind>
     }
 }
 
-/// Nothing, where no word is left.
+/// Nothing, if no word is left.
 ///
 /// # Errors
-/// `WrongCount` where there is one.
+/// `WrongCount` if there is one.
 #[tactic(auto, unfolding(crate::specs::Counts::none))]
 pub fn none(rest: &[u8]) -> Result<(), FaultKind>
     ensures { Reads (λ x. x) result (none (words_of rest.now)) }
@@ -41,7 +41,7 @@ pub fn none(rest: &[u8]) -> Result<(), FaultKind>
 /// The only word.
 ///
 /// # Errors
-/// `WrongCount` where there is none or another one.
+/// `WrongCount` if there is none or another one.
 #[tactic(auto, unfolding(crate::specs::Counts::one))]
 pub fn one(rest: &[u8]) -> Result<&[u8], FaultKind>
     ensures { Reads (λ x. x.now) result (one (words_of rest.now)) }
@@ -54,7 +54,7 @@ pub fn one(rest: &[u8]) -> Result<&[u8], FaultKind>
 /// The only two words.
 ///
 /// # Errors
-/// `WrongCount` where there are fewer or more.
+/// `WrongCount` if there are fewer or more.
 #[tactic(auto, unfolding(crate::specs::Counts::two))]
 pub fn two(rest: &[u8]) -> Result<(&[u8], &[u8]), FaultKind>
     ensures { Reads (λ x. (x.0.now, x.1.now)) result (two (words_of rest.now)) }
@@ -67,7 +67,7 @@ pub fn two(rest: &[u8]) -> Result<(&[u8], &[u8]), FaultKind>
 /// The only three words.
 ///
 /// # Errors
-/// `WrongCount` where there are fewer or more.
+/// `WrongCount` if there are fewer or more.
 #[tactic(auto, unfolding(crate::specs::Counts::three))]
 pub fn three(rest: &[u8]) -> Result<(&[u8], &[u8], &[u8]), FaultKind>
     ensures { Reads (λ x. (x.0.now, x.1.now, x.2.now)) result (three (words_of rest.now)) }
@@ -80,7 +80,7 @@ pub fn three(rest: &[u8]) -> Result<(&[u8], &[u8], &[u8]), FaultKind>
 /// The only word, or none.
 ///
 /// # Errors
-/// `WrongCount` where there are more.
+/// `WrongCount` if there are more.
 #[tactic(auto, unfolding(crate::specs::Counts::optional))]
 pub fn optional(rest: &[u8]) -> Result<Option<&[u8]>, FaultKind>
     ensures { Reads (λ x. option_map (λ word. word.now) x) result (optional (words_of rest.now)) }
@@ -97,7 +97,7 @@ pub fn optional(rest: &[u8]) -> Result<Option<&[u8]>, FaultKind>
 /// One word, and one that may be left out.
 ///
 /// # Errors
-/// `WrongCount` where there is none or a third.
+/// `WrongCount` if there is none or a third.
 #[tactic(auto, unfolding(crate::specs::Counts::one_or_two))]
 pub fn one_or_two(rest: &[u8]) -> Result<(&[u8], Option<&[u8]>), FaultKind>
     ensures { Reads (λ x. (x.0.now, option_map (λ word. word.now) x.1)) result
@@ -111,7 +111,7 @@ pub fn one_or_two(rest: &[u8]) -> Result<(&[u8], Option<&[u8]>), FaultKind>
 /// Two words that may be left out from the end.
 ///
 /// # Errors
-/// `WrongCount` where there are more.
+/// `WrongCount` if there are more.
 #[tactic(auto, unfolding(crate::specs::Counts::two_optional))]
 pub fn two_optional(rest: &[u8]) -> Result<(Option<&[u8]>, Option<&[u8]>), FaultKind>
     ensures { Reads (λ x. (option_map (λ word. word.now) x.0, option_map (λ word. word.now) x.1))
@@ -129,7 +129,7 @@ pub fn two_optional(rest: &[u8]) -> Result<(Option<&[u8]>, Option<&[u8]>), Fault
 /// Two words, and the line behind them.
 ///
 /// # Errors
-/// `WrongCount` where there are fewer.
+/// `WrongCount` if there are fewer.
 #[tactic(auto, unfolding(crate::specs::Counts::next_two))]
 pub fn next_two(rest: &[u8]) -> Result<(&[u8], &[u8], &[u8]), FaultKind>
     ensures { Reads (λ x. (x.0.now, x.1.now, words_of x.2.now)) result
@@ -143,7 +143,7 @@ pub fn next_two(rest: &[u8]) -> Result<(&[u8], &[u8], &[u8]), FaultKind>
 /// Two words, and two that may be left out from the end.
 ///
 /// # Errors
-/// `WrongCount` where there are fewer than two or more than four.
+/// `WrongCount` if there are fewer than two or more than four.
 #[tactic(auto, unfolding(crate::specs::Counts::two_to_four))]
 pub fn two_to_four(
     rest: &[u8],
@@ -163,7 +163,7 @@ pub fn two_to_four(
 /// Three words, and one that may be left out.
 ///
 /// # Errors
-/// `WrongCount` where there are fewer than three or more than four.
+/// `WrongCount` if there are fewer than three or more than four.
 #[tactic(auto, unfolding(crate::specs::Counts::three_or_four))]
 pub fn three_or_four(rest: &[u8]) -> Result<((&[u8], &[u8]), (&[u8], Option<&[u8]>)), FaultKind>
     ensures { Reads
@@ -188,10 +188,10 @@ fn count(words: &[u8]) -> usize
     count
 }
 
-/// Nothing, where at most so many words are left.
+/// Nothing, if at most so many words are left.
 ///
 /// # Errors
-/// `WrongCount` where there are more.
+/// `WrongCount` if there are more.
 #[tactic(auto, unfolding(crate::specs::Counts::few))]
 pub fn few(most: usize, rest: &[u8]) -> Result<(), FaultKind>
     ensures words { Reads (λ x. x) result (few most (words_of rest.now)) }

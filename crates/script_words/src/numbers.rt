@@ -61,7 +61,7 @@ fn value_in(base: u64, digits: &[u8]) -> u64
     value
 }
 
-// The number that decimal digits spell, as far as it is below the cap; None where one is no digit.
+// The number that decimal digits spell, as far as it is below the cap; None if one is no digit.
 #[tactic(auto, using(std::proofs::lemmas::List::Folds::list_all_at, std::proofs::lemmas::List::Folds::list_all_more))]
 fn digits_value(digits: &[u8]) -> Option<u64>
     ensures { MatchOption result (list_all is_digit digits.now ≡ false)
@@ -83,7 +83,7 @@ fn are_hex_digits(word: &[u8]) -> bool
     word.iter().all(|&byte| is_hex_digit(byte))
 }
 
-// The number that these decimal digits spell, as far as it is below the cap; None where they aren't
+// The number that these decimal digits spell, as far as it is below the cap; None if they aren't
 // such digits, or have a needless 0 at the front.
 #[tactic(auto, unfolding(crate::specs::Numbers::is_decimal))]
 fn decimal_value(word: &[u8]) -> Option<u64>
@@ -102,7 +102,7 @@ fn decimal_value(word: &[u8]) -> Option<u64>
     }
 }
 
-// The value, where it is a number of a script.
+// The value, if it is a number of a script.
 fn small(value: u64) -> Result<u32, FaultKind>
     ensures { Reads (λ n. n) result (small value) }
 {
@@ -138,7 +138,7 @@ fn decimal(digits: &[u8]) -> Result<u32, FaultKind>
 /// to eight hexadecimal digits.
 ///
 /// # Errors
-/// `BadWord` where it spells none up to 4294967295.
+/// `BadWord` if it spells none up to 4294967295.
 #[tactic(auto, unfolding(crate::specs::Numbers::number_of))]
 pub fn number(word: &[u8]) -> Result<u32, FaultKind>
     ensures { Reads (λ n. n) result (number_of word.now) }
@@ -170,10 +170,10 @@ fn register(letter: u8, count: u32, word: &[u8]) -> Result<u32, FaultKind>
     }
 }
 
-/// The number, where it is from `low` to `high`.
+/// The number, if it is from `low` to `high`.
 ///
 /// # Errors
-/// `OutOfRange` where it isn't.
+/// `OutOfRange` if it isn't.
 #[tactic(auto, unfolding(crate::specs::Numbers::within))]
 pub fn within(low: u32, high: u32, number: u32) -> Result<u32, FaultKind>
     ensures range { Reads (λ n. n) result (within low high number) }
@@ -201,7 +201,7 @@ fn colon_in(word: &[u8]) -> Option<usize>
     word.iter().position(|&byte| byte == b':')
 }
 
-// What stands before the first colon and what follows it; None where no colon is there.
+// What stands before the first colon and what follows it; None if no colon is there.
 fn first_part(word: &[u8]) -> Option<(&[u8], &[u8])>
     ensures { MatchOption result (parts_of word.now ≡ word.now ∷ [])
         (λ cut. parts_of word.now ≡ cut.0.now ∷ parts_of cut.1.now) }
@@ -219,7 +219,7 @@ fn first_part(word: &[u8]) -> Option<(&[u8], &[u8])>
 /// Two numbers with a colon between.
 ///
 /// # Errors
-/// `BadWord` where the word isn't that.
+/// `BadWord` if the word isn't that.
 #[tactic(auto, unfolding(crate::specs::Numbers::numbers_2))]
 pub fn two_numbers(word: &[u8]) -> Result<(u32, u32), FaultKind>
     ensures { Reads (λ x. x) result (numbers_2 (parts_of word.now)) }
@@ -250,7 +250,7 @@ fn number_and_two(first: &[u8], others: &[u8]) -> Result<(u32, u32, u32), FaultK
 /// Three numbers with colons between.
 ///
 /// # Errors
-/// `BadWord` where the word isn't that.
+/// `BadWord` if the word isn't that.
 #[tactic(auto, unfolding(crate::specs::Numbers::numbers_3))]
 pub fn three_numbers(word: &[u8]) -> Result<(u32, u32, u32), FaultKind>
     ensures { Reads (λ x. x) result (numbers_3 (parts_of word.now)) }
@@ -264,7 +264,7 @@ pub fn three_numbers(word: &[u8]) -> Result<(u32, u32, u32), FaultKind>
 /// The number of a pipe's register, `p0` to `p63`.
 ///
 /// # Errors
-/// `BadWord` where the word names none.
+/// `BadWord` if the word names none.
 #[tactic(auto, unfolding(crate::specs::Numbers::pipe_of))]
 pub fn pipe(word: &[u8]) -> Result<u32, FaultKind>
     ensures { Reads (λ n. n) result (pipe_of word.now) }
@@ -275,7 +275,7 @@ pub fn pipe(word: &[u8]) -> Result<u32, FaultKind>
 /// The number of a buffer's register, `b0` to `b63`.
 ///
 /// # Errors
-/// `BadWord` where the word names none.
+/// `BadWord` if the word names none.
 #[tactic(auto, unfolding(crate::specs::Numbers::buffer_of))]
 pub fn buffer(word: &[u8]) -> Result<u32, FaultKind>
     ensures { Reads (λ n. n) result (buffer_of word.now) }
@@ -286,7 +286,7 @@ pub fn buffer(word: &[u8]) -> Result<u32, FaultKind>
 /// The number of a memory pool's register, `q0` to `q7`.
 ///
 /// # Errors
-/// `BadWord` where the word names none.
+/// `BadWord` if the word names none.
 #[tactic(auto, unfolding(crate::specs::Numbers::pool_of))]
 pub fn pool(word: &[u8]) -> Result<u32, FaultKind>
     ensures { Reads (λ n. n) result (pool_of word.now) }
@@ -297,7 +297,7 @@ pub fn pool(word: &[u8]) -> Result<u32, FaultKind>
 /// The number of a grant's register, `m0` to `m63`.
 ///
 /// # Errors
-/// `BadWord` where the word names none.
+/// `BadWord` if the word names none.
 #[tactic(auto, unfolding(crate::specs::Numbers::grant_of))]
 pub fn grant(word: &[u8]) -> Result<u32, FaultKind>
     ensures { Reads (λ n. n) result (grant_of word.now) }
@@ -308,7 +308,7 @@ pub fn grant(word: &[u8]) -> Result<u32, FaultKind>
 /// The number of a table handle's register, `t0` to `t63`.
 ///
 /// # Errors
-/// `BadWord` where the word names none.
+/// `BadWord` if the word names none.
 #[tactic(auto, unfolding(crate::specs::Numbers::table_of))]
 pub fn table(word: &[u8]) -> Result<u32, FaultKind>
     ensures { Reads (λ n. n) result (table_of word.now) }
@@ -316,10 +316,10 @@ pub fn table(word: &[u8]) -> Result<u32, FaultKind>
     register(b't', REGISTERS as u32, word)
 }
 
-/// The number as a byte, where it is at most 255.
+/// The number as a byte, if it is at most 255.
 ///
 /// # Errors
-/// `OutOfRange` where it is greater.
+/// `OutOfRange` if it is greater.
 pub fn byte_within(number: u32) -> Result<u8, FaultKind>
     ensures { Reads (λ n. n) result (within 0 255 number) }
 {
@@ -327,10 +327,10 @@ pub fn byte_within(number: u32) -> Result<u8, FaultKind>
     Ok(number as u8)
 }
 
-/// The number as one of two bytes, where it is at most 65535.
+/// The number as one of two bytes, if it is at most 65535.
 ///
 /// # Errors
-/// `OutOfRange` where it is greater.
+/// `OutOfRange` if it is greater.
 pub fn short_within(number: u32) -> Result<u16, FaultKind>
     ensures { Reads (λ n. n) result (within 0 65535 number) }
 {

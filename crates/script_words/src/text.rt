@@ -147,7 +147,7 @@ fn from_word(line: &[u8]) -> &[u8]
     rest
 }
 
-/// The first word of a line and the line behind it; None exactly where no word is left.
+/// The first word of a line and the line behind it; None if and only if no word is left.
 pub fn first_word(line: &[u8]) -> Option<(&[u8], &[u8])>
     ensures words { MatchOption result (words_of line.now ≡ [])
         (λ cut. words_of line.now ≡ cut.0.now ∷ words_of cut.1.now) }

@@ -15,7 +15,7 @@ use std::alloc::Global;
 /// The name that a word gives; a hyphen alone is the empty name.
 ///
 /// # Errors
-/// `OutOfRange` past 64 bytes; `Memory` where there is no memory for it.
+/// `OutOfRange` past 64 bytes; `Memory` if there is no memory for it.
 #[tactic(auto, unfolding(crate::specs::Content::name_of))]
 pub fn name(alloc: Global, word: &[u8]) -> Result<ByteText, LineFail>
     ensures { Gives (λ name. name) result (name_of word.now) }
@@ -43,10 +43,10 @@ fn mode_word(word: &[u8]) -> Result<bool, FaultKind>
     }
 }
 
-/// Whether a send counts on: `inc` or `keep`, and `inc` where the word is left out.
+/// Whether a send counts on: `inc` or `keep`, and `inc` if the word is left out.
 ///
 /// # Errors
-/// `BadWord` where it is another word.
+/// `BadWord` if it is another word.
 #[tactic(auto, unfolding(crate::specs::Content::mode_of))]
 pub fn mode(word: Option<&[u8]>) -> Result<bool, FaultKind>
     ensures { Reads (λ inc. inc) result (mode_of (option_map (λ w. w.now) word.entry)) }
@@ -70,10 +70,10 @@ fn scope_word(word: &[u8]) -> Result<Scope, FaultKind>
     }
 }
 
-/// How far a subscription reaches: `global` or `local`, and `global` where the word is left out.
+/// How far a subscription reaches: `global` or `local`, and `global` if the word is left out.
 ///
 /// # Errors
-/// `BadWord` where it is another word.
+/// `BadWord` if it is another word.
 #[tactic(auto, unfolding(crate::specs::Content::scope_of))]
 pub fn scope(word: Option<&[u8]>) -> Result<Scope, FaultKind>
     ensures { Reads (λ scope. scope) result (scope_of (option_map (λ w. w.now) word.entry)) }
@@ -84,11 +84,11 @@ pub fn scope(word: Option<&[u8]>) -> Result<Scope, FaultKind>
     }
 }
 
-/// The numbers of a filling `fill:LEN:BYTE`, in any range; None where the word spells its bytes
+/// The numbers of a filling `fill:LEN:BYTE`, in any range; None if the word spells its bytes
 /// out.
 ///
 /// # Errors
-/// `BadWord` where it is neither.
+/// `BadWord` if it is neither.
 #[tactic(auto, unfolding(crate::specs::Content::filling_of))]
 pub fn filling(word: &[u8]) -> Result<Option<(u32, u32)>, FaultKind>
     ensures { Reads (λ fill. fill) result (filling_of word.now) }
@@ -108,8 +108,8 @@ pub fn filling(word: &[u8]) -> Result<Option<(u32, u32)>, FaultKind>
 /// The content that a word spells, whose filling these numbers are.
 ///
 /// # Errors
-/// `OutOfRange` where a filling has no byte, more than 65536, or a first byte past 255; `Memory`
-/// where there is no memory for it.
+/// `OutOfRange` if a filling has no byte, more than 65536, or a first byte past 255; `Memory`
+/// if there is no memory for it.
 #[tactic(auto, unfolding(crate::specs::Content::content_of))]
 pub fn content(alloc: Global, word: &[u8], filling: Option<(u32, u32)>) -> Result<Content, LineFail>
     ensures { Gives (λ content. content) result (content_of word.now filling) }

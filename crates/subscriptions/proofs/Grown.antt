@@ -48,7 +48,7 @@ pub live_grown_slots : (slots : List (Option Place)) (free : List ℕ) (made : �
 live_grown_slots slots (slot ∷ free) made = refl
 live_grown_slots slots [] made = live_still slots made
 
--- how many there are then: one more where none was free, so that there are as many as are live
+-- how many there are then: one more if none was free, so that there are as many as are live
 pub length_grown : (slots : List (Option Place)) (free : List ℕ) (made room : ℕ) → AreKept slots free made → length slots ≤ room → length (live_upto slots made) < room → length (with_slot slots free) ≤ room
 length_grown slots (slot ∷ free) made room kept few less = few
 length_grown slots [] made room kept few less = omega (arith, kept.full, less, length_push slots (let none : Option Place = None in none))

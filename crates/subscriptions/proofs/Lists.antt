@@ -15,7 +15,7 @@ module _ {X : Type 0} where
       ap (λ b. cond b (x ∷ filter test xs) (filter test xs)) (All-head (λ x. test x ≡ true) x xs all)
       ∙ ap (λ ys. x ∷ ys) (filter_same test xs (All-tail (λ x. test x ≡ true) x xs all))
 
-  -- a change of what passes a test, where nothing does
+  -- a change of what passes a test, if nothing does
   pub map_none : (test : X → Bool) (change : X → X) (xs : List X) → find test xs ≡ None → map (λ x. cond (test x) (change x) x) xs ≡ xs
   map_none test change [] none = refl
   map_none test change (x ∷ xs) none = choose (map_none test change xs) (test x) none

@@ -44,7 +44,7 @@ live_found slots free made sub p kept is =
 pub live_ended : (slots : List (Option Place)) (made : ℕ) (sub : SubNo) → held_at slots sub.slot sub.number ≡ None → find (goes_by sub) (live_upto slots made) ≡ None
 live_ended slots made sub none = find_ended slots sub made (held_elsewhere slots sub.slot sub.number none)
 
--- and so where the slot has the number
+-- and so if the slot has the number
 pub live_here : (slots : List (Option Place)) (free : List ℕ) (made : ℕ) (sub : SubNo) (p : Place) → AreKept slots free made → get_or slots sub.slot None ≡ Some p → p.number ≡ sub.number → find (goes_by sub) (live_upto slots made) ≡ Some (held_in sub.slot p)
 live_here slots free made sub p kept here its =
     live_found slots free made sub p kept (ap (λ b. cond b (get_or slots sub.slot None) None) (eq-eqb (number_at slots sub.slot) sub.number (ap number_in here ∙ its)) ∙ here)
@@ -71,7 +71,7 @@ not_in_use slots free made slot unused =
             let empty = (last_free slots free slot unused).1 in
             cc
 
--- a pipe has no live subscription where no slot holds one
+-- a pipe has no live subscription if no slot holds one
 pub none_of_pipe : (slots : List (Option Place)) (made pipe : ℕ) → ((k : ℕ) (p : Place) → get_or slots k None ≡ Some p → p.pipe ≢ pipe) → list_any (λ s. eqb s.pipe pipe) (live_upto slots made) ≡ false
 none_of_pipe slots made pipe none =
     list_any_none (λ s. eqb s.pipe pipe) (live_upto slots made) (All-weaker (StandsUpto slots made) (λ s. eqb s.pipe pipe ≡ false) foreign (live_upto slots made) (live_stand slots made))

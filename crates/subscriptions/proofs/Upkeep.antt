@@ -9,7 +9,7 @@ use Rattle.subscriptions.proofs.LiveSubscriptions.{in_range}
 use Rattle.subscriptions.proofs.FreeSlots.{last_free, free_taken, free_given}
 use Rattle.subscriptions.proofs.Writes.{written, same_at, number_waiting, some_waiting, nothing_there}
 
--- numbers stay distinct where a slot gets one that is above all, or none
+-- numbers stay distinct if a slot gets one that is above all, or none
 distinct_still : (slots : List (Option Place)) (slot : ℕ) (new : Option Place) → slot < length slots → ((j k : ℕ) → 0 < number_at slots j → number_at slots j ≡ number_at slots k → j ≡ k) →
     ((k : ℕ) → k ≢ slot → 0 < number_in new → number_at slots k ≢ number_in new) →
     (j k : ℕ) → 0 < number_at (set slots slot new) j → number_at (set slots slot new) j ≡ number_at (set slots slot new) k → j ≡ k

@@ -39,7 +39,7 @@ kept_after after slots free made sub p waiting kept held is =
 unchanged : (subs : Subscribed) (sub : SubNo) (change : LiveSubscription → LiveSubscription) → live_at subs sub ≡ None → subs ≡ with_change subs sub change
 unchanged subs sub change none = ap (λ xs. let v : Subscribed = record subs { live = xs } in v) (sym (map_none (goes_by sub) change subs.live none))
 
--- what is left where the count in a slot changes if the slot has the subscription's number
+-- what is left if the count in a slot changes if the slot has the subscription's number
 pub record IsRecounted (after slots : List (Option Place)) (free : List ℕ) (made : ℕ) (sub : SubNo) (step : ℕ → ℕ) : Type 0 where
   pub kept : AreKept after free made
   pub as_many : length after ≡ length slots
@@ -74,7 +74,7 @@ recounts after slots free made sub step kept is = settled (held_at slots sub.slo
           live = λ room. shown_waiting room after slots free made sub p (step p.waiting) (λ s. record s { waiting = step s.waiting }) kept held refl now;
         }
 
--- and where there is no such slot
+-- and if there is no such slot
 pub recounts_none : (after slots : List (Option Place)) (free : List ℕ) (made : ℕ) (sub : SubNo) (step : ℕ → ℕ) → AreKept slots free made → after ≡ slots → get_or slots sub.slot None ≡ None → IsRecounted after slots free made sub step
 recounts_none after slots free made sub step kept is none =
     recounts after slots free made sub step kept

@@ -30,7 +30,7 @@ row_in p =
       waiting = p.waiting;
     }
 
--- the subscription of this number, where one of these slots holds it; they are numbered on from the
+-- the subscription of this number, if one of these slots holds it; they are numbered on from the
 -- first
 abbrev pub numbered : ℕ → ℕ → List (Option Place) → List LiveSubscription
 numbered number slot [] = []
@@ -44,7 +44,7 @@ abbrev pub live_upto : List (Option Place) → ℕ → List LiveSubscription
 live_upto slots zero = []
 live_upto slots (suc number) = live_upto slots number ++ numbered (suc number) 0 slots
 
--- the number of what a slot holds; 0 where it is free
+-- the number of what a slot holds; 0 if it is free
 abbrev pub number_in : Option Place → ℕ
 number_in None = 0
 number_in (Some p) = p.number
@@ -52,7 +52,7 @@ number_in (Some p) = p.number
 abbrev pub number_at : List (Option Place) → ℕ → ℕ
 number_at slots slot = number_in (slice_index_or slots slot None)
 
--- what a slot holds where it has this number
+-- what a slot holds if it has this number
 abbrev pub held_at : List (Option Place) → ℕ → ℕ → Option Place
 held_at slots slot number =
     if number_at slots slot == number then slice_index_or slots slot None else None
@@ -62,7 +62,7 @@ abbrev pub with_waiting : ℕ → Option Place → Option Place
 with_waiting waiting None = None
 with_waiting waiting (Some p) = Some (record p { waiting = waiting })
 
--- what a slot holds, with the count of messages that wait changed where it has this number
+-- what a slot holds, with the count of messages that wait changed if it has this number
 abbrev pub recounted : ℕ → (ℕ → ℕ) → Option Place → Option Place
 recounted number change None = None
 recounted number change (Some p) =

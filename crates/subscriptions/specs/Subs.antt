@@ -37,7 +37,7 @@ number_of s = record { slot = s.slot; number = s.number }
 abbrev pub goes_by : SubNo → LiveSubscription → Bool
 goes_by sub s = s.slot == sub.slot && s.number == sub.number
 
--- the live subscription of this slot and number; none where it has ended
+-- the live subscription of this slot and number; none if it has ended
 abbrev pub live_at : Subscribed → SubNo → Option LiveSubscription
 live_at subs sub = find (goes_by sub) subs.live
 
@@ -69,7 +69,7 @@ one_more s = record s { waiting = s.waiting + 1 }
 abbrev pub one_fewer : LiveSubscription → LiveSubscription
 one_fewer s = record s { waiting = s.waiting - 1 }
 
--- the subscriptions, with a change of the one of this slot and number, where it is live
+-- the subscriptions, with a change of the one of this slot and number, if it is live
 abbrev pub with_change : Subscribed → SubNo → (LiveSubscription → LiveSubscription) → Subscribed
 with_change subs sub change =
     record subs { live = map (λ s. if goes_by sub s then change s else s) subs.live }

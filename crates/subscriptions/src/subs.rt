@@ -15,7 +15,7 @@ use std::marker::Model;
 /// The live subscriptions. Contracts see how many may be live at once, how many were made so far,
 /// and those that are live, in order of number.
 pub struct Subs {
-    // What each slot that was ever used holds; None where it is free. Each subscription has a
+    // What each slot that was ever used holds; None if it is free. Each subscription has a
     // number of its own.
     slots: Vec<Option<Place>>,
     // Those of them that are free, each once, the next one to use last.
@@ -58,7 +58,7 @@ impl Subs {
     /// takes memory.
     ///
     /// # Errors
-    /// `AllocError` where memory runs out.
+    /// `AllocError` if memory runs out.
     pub fn new(alloc: Global, room: u32) -> Result<Subs, AllocError>
         ensures { IfOk result (λ subs. subs ≡ record { room = room; made = 0; live = [] }) }
     {
@@ -164,7 +164,7 @@ impl Subs {
         }
     }
 
-    /// One more message of a subscription waits; no effect where it has ended. By the code, it
+    /// One more message of a subscription waits; no effect if it has ended. By the code, it
     /// takes a constant time.
     pub fn queued(&mut self, sub: SubNo)
         requires { ForSome (live_at self.old sub) (λ s. s.waiting + 1 < 2 ^ 32) }
@@ -185,7 +185,7 @@ impl Subs {
         count_up_held(&mut self.slots[sub.slot as usize], sub.number);
     }
 
-    /// One message of a subscription, of which at least one waits, waits no longer; no effect where
+    /// One message of a subscription, of which at least one waits, waits no longer; no effect if
     /// it has ended. By the code, it takes a constant time.
     pub fn unqueued(&mut self, sub: SubNo)
         requires { ForSome (live_at self.old sub) (λ s. 1 ≤ s.waiting) }
@@ -196,7 +196,7 @@ impl Subs {
         }
     }
 
-    /// A live subscription of a pipe; None exactly where it has none. For the deletion of a pipe:
+    /// A live subscription of a pipe; None if and only if it has none. For the deletion of a pipe:
     /// it looks at as many slots as ever were used at once.
     pub fn any_of_pipe(&self, pipe: u32) -> Option<SubNo>
         ensures some { IsSome result ↔ IsTrue (list_any (λ s. s.pipe == pipe) self.now.live) }
@@ -227,7 +227,7 @@ fn in_slot(slots: &[Option<Place>], slot: u32) -> Option<Place>
     }
 }
 
-// What the slot of a subscription holds, where the subscription is live.
+// What the slot of a subscription holds, if the subscription is live.
 fn held(slots: &[Option<Place>], sub: SubNo) -> Option<Place>
     ensures { result ≡ held_at slots.now sub.slot sub.number }
 {
@@ -237,7 +237,7 @@ fn held(slots: &[Option<Place>], sub: SubNo) -> Option<Place>
     }
 }
 
-// One message more waits of the subscription of this number, where the slot holds it.
+// One message more waits of the subscription of this number, if the slot holds it.
 fn count_up(slot: &mut Option<Place>, number: u32)
     requires { ForSome slot.old (λ p. p.number ≡ number → p.waiting + 1 < 2 ^ 32) }
     ensures { slot.new ≡ recounted number (λ waiting. waiting + 1) slot.old }
@@ -261,7 +261,7 @@ fn count_up_held(slot: &mut Option<Place>, number: u32)
     }
 }
 
-// One message fewer waits of the subscription of this number, where the slot holds it.
+// One message fewer waits of the subscription of this number, if the slot holds it.
 fn count_down(slot: &mut Option<Place>, number: u32)
     requires { ForSome slot.old (λ p. p.number ≡ number → 1 ≤ p.waiting) }
     ensures { slot.new ≡ recounted number (λ waiting. waiting - 1) slot.old }

@@ -1,4 +1,4 @@
--- What the memory of a pool keeps stays true where a block is drawn or comes back.
+-- What the memory of a pool keeps stays true if a block is drawn or comes back.
 use Rattle.std.proofs.Common.{◌≡◌, ◌≢◌, ℕ, ◌+◌, ◌-◌, ◌<◌, ◌≤◌, ◌⊎◌, inl, inr, Bool, true, false, leb, List, [], ◌∷◌, ◌++◌, length, get_or, set, refl, ap, sym, subst, ◌∙◌, arith, Option, Some, None, Result, Ok, Err, IsOk, OnOk}
 use Rattle.std.proofs.lemmas.Bool.{cases_eq, cases_lt}
 use Rattle.std.proofs.lemmas.Bool.Decides.{nat_tests}
@@ -44,7 +44,7 @@ other_out pool n d b r ne = ap (λ (x : CutBlock). x.out) (get_or-set_other pool
 other_size : (pool : PoolState) (n d : ℕ) (b : CutBlock) (r : ℕ) → d ≢ n → size_at (with_blocks pool (set pool.blocks n b) r) d ≡ size_at pool d
 other_size pool n d b r ne = ap (λ (x : CutBlock). get_or pool.sizes x.class 0) (get_or-set_other pool.blocks n d b (block 0 true) ne)
 
--- what was cut took as much, where a block keeps its class
+-- what was cut took as much, if a block keeps its class
 same_used : (pool : PoolState) (n : ℕ) (b : CutBlock) → n < length pool.blocks → b.class ≡ class_at pool n → used_by pool.sizes (set pool.blocks n b) ≡ used_by pool.sizes pool.blocks
 same_used pool n b h e =
     let one : get_or pool.sizes b.class 0 ≡ get_or pool.sizes (class_at pool n) 0 = ap (λ k. get_or pool.sizes k 0) e in
@@ -95,7 +95,7 @@ large size class sizes e = at (get_or sizes class 0) (position-Some (λ b. leb s
     at : (whole : ℕ) → leb size whole ≡ true → size ≤ whole
     at whole t = grind (arith, nat_tests)
 
--- what is known where a free block is drawn again
+-- what is known if a free block is drawn again
 pub record Reused (old new : PoolState) (slots : List Slot) (rest capacity size desc key : ℕ) : Type 0 where
   pub free : is_free (slot_at slots desc) ≡ true
   pub enough : size ≤ length (free_bytes (slot_at slots desc))
@@ -125,7 +125,7 @@ reused old new slots rest capacity size desc key k drawn was h = at (class_of si
     at None e d = absurd d
     at (Some class) e d = reused_class old new slots rest capacity size class desc key k e d was h
 
--- what is known where a block is cut
+-- what is known if a block is cut
 pub record CutOff (old new : PoolState) (slots : List Slot) (rest capacity size desc key : ℕ) : Type 0 where
   pub next : desc ≡ length slots
   pub there : desc < length new.blocks

@@ -1,4 +1,4 @@
--- What all tables keep stays true where one of them is changed, comes or leaves.
+-- What all tables keep stays true if one of them is changed, comes or leaves.
 use Rattle.std.proofs.Common.{◌≡◌, ◌≢◌, ℕ, ◌+◌, ◌-◌, ◌<◌, ◌≤◌, ◌⊎◌, inl, inr, Bool, true, false, not, ◌&&◌, cond, eqb, List, [], ◌∷◌, ◌++◌, length, set, get_or, refl, ap, sym, subst, ◌∙◌, arith, Option, Some, None, All}
 use Rattle.std.specs.Option.{option_map_or}
 use Rattle.std.proofs.lemmas.Bool.{cases_eq}
@@ -22,7 +22,7 @@ use Rattle.table_blocks.specs.declared.slot.Slot.TheVariants.{Free, Taken}
 abbrev pub mark : Option Content → ℕ
 mark o = cond {A = ℕ} (has_buffer o) 1 0
 
--- one table is held as before where its blocks and its size stay
+-- one table is held as before if its blocks and its size stay
 pub held_as : (memory : Memory) (most key : ℕ) (c c' : Content) → IsHeld memory most key c → c'.size ≡ c.size → c'.option ≡ c.option → c'.first ≡ c.first → c'.second ≡ c.second → c'.present.whole ≡ c.present.whole → (is_double c ≡ false → is_staged c'.next ≡ true → (staged_in c'.next).whole ≡ most) → IsHeld memory most key c'
 held_as memory most key c c' k es eo ef en ew working = record {
   small = subst (λ n. n ≤ most) (sym es) k.small;
@@ -35,7 +35,7 @@ held_as memory most key c c' k es eo ef en ew working = record {
   working = λ d s. working (ap (λ n. eqb n 1) (sym eo) ∙ d) s;
 }
 
--- each table is held where one is changed that is
+-- each table is held if one is changed that is
 pub held_set : (memory : Memory) (most key : ℕ) (tables : List (Option Content)) (o : Option Content) → key < length tables → ((k : ℕ) (c : Content) → k ≢ key → kept_at tables k ≡ Some c → IsHeld memory most k c) → ((c : Content) → o ≡ Some c → IsHeld memory most key c) → (k : ℕ) (c : Content) → kept_at (set tables key o) k ≡ Some c → IsHeld memory most k c
 held_set memory most key tables o h others here k c e = at (cases_eq k key)
   where
@@ -43,7 +43,7 @@ held_set memory most key tables o h others here k c e = at (cases_eq k key)
     at (inl same) = subst (λ i. IsHeld memory most i c) (sym same) (here c (sym (get_or-set_same tables key o None h) ∙ (ap (kept_at (set tables key o)) (sym same) ∙ e)))
     at (inr apart) = others k c apart (sym (get_or-set_other tables key k o None apart) ∙ e)
 
--- all is kept where one table and the working buffers are changed
+-- all is kept if one table and the working buffers are changed
 pub store_set : (memory memory' : Memory) (most key : ℕ) (tables : List (Option Content)) (work work' : List (List ℕ)) (capacity capacity' : ℕ) (o : Option Content) → IsStore memory most tables work capacity → key < length tables → ((k : ℕ) (c : Content) → k ≢ key → kept_at tables k ≡ Some c → IsHeld memory' most k c) → ((c : Content) → o ≡ Some c → IsHeld memory' most key c) → length work' + mark o ≡ length work + mark (kept_at tables key) → All (λ bytes. length bytes ≡ most) work' → capacity' ≡ capacity → IsStore memory' most (set tables key o) work' capacity'
 store_set memory memory' most key tables work work' capacity capacity' o k h others here count all same = record {
   held = held_set memory' most key tables o h others here;
@@ -55,12 +55,12 @@ store_set memory memory' most key tables work work' capacity capacity' o k h oth
 some_is : (c d : Content) → Some c ≡ Some d → c ≡ d
 some_is c d e = ap (λ o. option_map_or (λ x. x) o no_content) e
 
--- the same where the memory stays
+-- the same if the memory stays
 pub store_changed : (memory : Memory) (most key : ℕ) (tables : List (Option Content)) (work work' : List (List ℕ)) (capacity capacity' : ℕ) (c' : Content) → IsStore memory most tables work capacity → key < length tables → IsHeld memory most key c' → length work' + mark (Some c') ≡ length work + mark (kept_at tables key) → All (λ bytes. length bytes ≡ most) work' → capacity' ≡ capacity → IsStore memory most (set tables key (Some c')) work' capacity'
 store_changed memory most key tables work work' capacity capacity' c' k h held count all same =
     store_set memory memory most key tables work work' capacity capacity' (Some c') k h (λ i c _ e. k.held i c e) (λ c e. subst (IsHeld memory most key) (some_is c' c e) held) count all same
 
--- a table that is held stays so where a block is drawn
+-- a table that is held stays so if a block is drawn
 pub held_taken : (old new : Memory) (most key other size block whole : ℕ) (c : Content) → Takes old new other size block whole → IsHeld old most key c → IsHeld new most key c
 held_taken old new most key other size block whole c t k =
     let first = t.others c.first key k.first in
@@ -76,7 +76,7 @@ held_taken old new most key other size block whole c t k =
       working = k.working;
     }
 
--- and where another table's block goes back
+-- and if another table's block goes back
 pub held_back : (old new : Memory) (most key other block : ℕ) (c : Content) → GoesBack old new block → slot_at old.slots block ≡ Taken other → key ≢ other → IsHeld old most key c → IsHeld new most key c
 held_back old new most key other block c g own apart k =
     let first = g.others c.first key k.first (not_here c.first k.first) in
@@ -133,13 +133,13 @@ mark_kept tables key there = ap mark (kept_content tables key there)
 double_same : (c c' : Content) → IsSameTable c c' → is_double c' ≡ is_double c
 double_same c c' same = ap (λ n. eqb n 1) same.option
 
--- nothing is staged where views of a version before are out
+-- nothing is staged if views of a version before are out
 older_idle : (n : Next) → 1 ≤ (older_in n).views → is_staged n ≡ false
 older_idle Nothing h = refl
 older_idle (Inactive version) h = refl
 older_idle (Staged value) h = absurd (omega (arith, h))
 
--- nor is it in what lies beside the present version where the one before had this
+-- nor is it in what lies beside the present version if the one before had this
 pub beside_idle : (c : Content) (version : LentVersion) → is_staged (beside c version) ≡ false
 beside_idle c version = at (is_double c)
   where

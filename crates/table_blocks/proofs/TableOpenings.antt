@@ -1,4 +1,4 @@
--- What all tables keep stays true where a table is opened or closed.
+-- What all tables keep stays true if a table is opened or closed.
 use Rattle.std.proofs.Common.{◌≡◌, ◌≢◌, ℕ, ◌+◌, ◌-◌, ◌*◌, ◌<◌, ◌≤◌, true, false, cond, eqb, leb, List, [], ◌∷◌, length, set, get_or, replicate, refl, ap, sym, subst, ◌∙◌, arith, Option, Some, None}
 use Rattle.std.proofs.Math.Nat.{mul-le-mul_left}
 use Rattle.std.proofs.lemmas.Bool.Decides.{nat_tests}
@@ -102,7 +102,7 @@ pub draws_single : (old new : PoolState) (size option block loan whole : ℕ) �
 draws_single old new size option block loan whole single drawn =
     subst (λ b. DrawsEach old new size (cond b (block ∷ block ∷ []) (block ∷ []))) (sym single) (new, (drawn, refl))
 
--- where two blocks fit, one does
+-- if two blocks fit, one does
 pub fits_one : (pool : PoolState) (size : ℕ) → fits pool size 2 ≡ true → fits pool size 1 ≡ true
 fits_one pool size = at (class_of size pool.sizes)
   where

@@ -103,7 +103,7 @@ staged_by c offset bytes whole =
 abbrev pub validated : Content → Content
 validated c = record c { next = Staged (record (staged_in c.next) { validated = true }) }
 
--- what lies beside the present version where the one before had this: a double-buffered table has
+-- what lies beside the present version if the one before had this: a double-buffered table has
 -- it in the inactive block
 abbrev pub beside : Content → LentVersion → Next
 beside c version = if is_double c then Inactive version else Nothing
@@ -125,7 +125,7 @@ with_value c loan value =
 
 -- Loans. --
 
--- the two versions of a table, where it has two, are of two loans
+-- the two versions of a table, if it has two, are of two loans
 abbrev pub HasTwoLoans : Content → Type 0
 HasTwoLoans c = is_inactive c.next ≡ true → (older_in c.next).loan ≢ c.present.loan
 
@@ -140,7 +140,7 @@ pub record ShareNoLoan (c other : Content) : Type 0 where
 
 -- All tables, by key. --
 
--- what is kept under a key where no table is
+-- what is kept under a key if no table is
 abbrev pub no_content : Content
 no_content =
     record {

@@ -46,7 +46,7 @@ pub record IsTable (c : Content) : Type 0 where
 
 -- All tables. --
 
--- a table's blocks are its own, two where it is double buffered, of the size that the pool takes
+-- a table's blocks are its own, two if it is double buffered, of the size that the pool takes
 -- for its bytes; it is no larger than a working buffer, and one that it has is whole
 pub record IsHeld (memory : Memory) (most key : ℕ) (c : Content) : Type 0 where
   pub small : c.size ≤ most

@@ -66,7 +66,7 @@ impl<'r> TableBlocks<'r> {
     ///
     /// # Errors
     ///
-    /// `AllocError` where memory runs out.
+    /// `AllocError` if memory runs out.
     pub fn new(
         alloc: Global,
         tables: u32,
@@ -202,7 +202,7 @@ impl<'r> TableBlocks<'r> {
         self.memory.recall_taken();
     }
 
-    /// Where all tables lie, and that no block is that of two tables. This does nothing, and is
+    /// If all tables lie, and that no block is that of two tables. This does nothing, and is
     /// there for what it ensures.
     pub fn recall_blocks(&self)
         ensures placed { (key : ℕ) → is_open self.now.tables key ≡ true →
@@ -221,7 +221,7 @@ impl<'r> TableBlocks<'r> {
         let _ = &self.work;
     }
 
-    /// The two versions of a table, where it has two, are of two loans. Does nothing.
+    /// The two versions of a table, if it has two, are of two loans. Does nothing.
     pub fn recall_versions(&mut self, key: u32)
         requires { is_open self.old.tables key ≡ true }
         ensures apart { HasTwoLoans (content_at self.old.tables key) }

@@ -38,7 +38,7 @@ impl<'r> HeldTables<'r> {
     ///
     /// # Errors
     ///
-    /// `AllocError` where memory runs out.
+    /// `AllocError` if memory runs out.
     pub fn new(alloc: Global, handles: u32) -> Result<HeldTables<'r>, AllocError>
         ensures { IfOk result (λ held. held ≡ record { views = []; room = handles }) }
     {

@@ -50,7 +50,7 @@ impl<'r> PoolMemory<'r> {
     ///
     /// # Errors
     ///
-    /// `AllocError` where memory runs out.
+    /// `AllocError` if memory runs out.
     pub fn new(
         alloc: Global,
         bytes: u32,
@@ -101,7 +101,7 @@ impl<'r> PoolMemory<'r> {
     ///
     /// # Errors
     ///
-    /// `ErrMemBlockSize` exactly where the pool has no block for it; then nothing changes.
+    /// `ErrMemBlockSize` if and only if the pool has no block for it; then nothing changes.
     pub fn draw<L: Ledger>(
         &mut self,
         key: u32,

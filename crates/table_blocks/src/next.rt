@@ -44,7 +44,7 @@ impl<'r> Next<'r> {
         }
     }
 
-    /// The version in the inactive block, where there is one, is of another loan than this one.
+    /// The version in the inactive block, if there is one, is of another loan than this one.
     /// Does nothing.
     pub fn tell_apart(&mut self, version: &mut Version<'_>)
         ensures apart { is_inactive self.old ≡ true → (older_in self.old).loan ≢ version.old.loan }

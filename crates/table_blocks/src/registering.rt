@@ -25,7 +25,7 @@ impl<'r> TableBlocks<'r> {
     ///
     /// # Errors
     ///
-    /// `ErrMemBlockSize` exactly where the blocks don't fit; then nothing changes.
+    /// `ErrMemBlockSize` if and only if the blocks don't fit; then nothing changes.
     pub fn open<L: Ledger>(
         &mut self,
         key: u32,

@@ -12,7 +12,7 @@ use std::alloc::{AllocError, Global};
 ///
 /// # Errors
 ///
-/// `AllocError` where memory runs out.
+/// `AllocError` if memory runs out.
 pub fn no_tables<'r>(alloc: Global, keys: u32) -> Result<Vec<Option<Table<'r>>>, AllocError>
     ensures { IfOk result (λ tables. tables.items ≡ replicate keys None) }
 {
@@ -56,7 +56,7 @@ pub fn put_table<'r>(tables: &mut Vec<Option<Table<'r>>>, key: u32, table: Table
     tables[key as usize] = Some(table);
 }
 
-/// The two versions of a table, where it has two, are of two loans. Does nothing.
+/// The two versions of a table, if it has two, are of two loans. Does nothing.
 pub fn tell_versions(tables: &mut Vec<Option<Table<'_>>>, key: u32)
     requires within { key < length tables.old.items }
     requires open { is_open tables.old.items key ≡ true }

@@ -31,7 +31,7 @@ use std::marker::Model;
 pub struct Table<'r> {
     // Its bytes.
     size: u32,
-    // 1 where it is double buffered.
+    // 1 if it is double buffered.
     option: u32,
     // How often it was updated.
     version: u64,
@@ -268,7 +268,7 @@ impl<'r> Table<'r> {
         let _ = &self.next;
     }
 
-    /// The two versions of a table, where it has two, are of two loans. Does nothing.
+    /// The two versions of a table, if it has two, are of two loans. Does nothing.
     pub fn tell_versions(&mut self)
         ensures apart { HasTwoLoans self.old }
         ensures same { self.new ≡ self.old }

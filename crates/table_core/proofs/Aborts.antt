@@ -11,7 +11,7 @@ use Rattle.table_core.specs.Inside.{staged_of, table_with}
 use Rattle.table_core.proofs.OtherVersions.{KeepsPresent}
 use Rattle.table_core.proofs.Validations.{with_staging, staged_there, none_older}
 
--- what a table has beside its version where nothing is staged
+-- what a table has beside its version if nothing is staged
 pub nothing_beside : (c : Content) (version : LentVersion) → staged_of (beside c version) ≡ None
 nothing_beside c version = by_test (is_double c)
   where

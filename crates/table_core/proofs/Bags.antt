@@ -98,12 +98,12 @@ due_alike a contents other same n = by_found (handle_at a.registry.handles n) re
         ap (λ v. cond {A = Option LentBytes} (eqb h.app other) v None)
         (found_all (λ (k : Handle). held_view contents k ≡ held_view a.blocks.tables k) (λ k. eqb k.number n) a.registry.handles h same at)
 
--- where contents change, and what handles hold of them doesn't
+-- if contents change, and what handles hold of them doesn't
 pub bags_still : (a : Inside) (b : Stored) → All (λ (h : Handle). held_view b.tables h ≡ held_view a.blocks.tables h) a.registry.handles → (other : ℕ) (bag : HeldViews) →
     Holds (plain_of a) other bag → Holds (plain_of (record a { blocks = b })) other bag
 bags_still a b same other bag = bags_go_on a (record a { blocks = b }) other bag refl (due_alike a b.tables other same) refl
 
--- and where a handle more holds nothing
+-- and if a handle more holds nothing
 pub bags_grown : (a b : Inside) (one : Handle) → one.held ≡ None → limits_of b.config ≡ limits_of a.config → b.registry.handles ≡ a.registry.handles ++ one ∷ [] →
     All (λ (h : Handle). held_view b.blocks.tables h ≡ held_view a.blocks.tables h) a.registry.handles → (other : ℕ) (bag : HeldViews) → Holds (plain_of a) other bag → Holds (plain_of b) other bag
 bags_grown a b one none limits grown same other bag = bags_go_on a b other bag limits due count

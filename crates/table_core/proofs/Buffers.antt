@@ -25,7 +25,7 @@ none_pass p d [] none = refl
 none_pass p d (x ∷ xs) none =
     omega (arith, sum_by-cons (λ y. cond {A = ℕ} (p y) 1 0) x xs, ap (λ b. cond {A = ℕ} b 1 0) (none 0), none_pass p d xs (λ i. none (suc i)))
 
--- where what passes lies under the keys of tables, it is counted by these
+-- if what passes lies under the keys of tables, it is counted by these
 module _ {X : Type 0} (p : X → Bool) (d : X) (off : p d ≡ false) where
   -- those of the other keys
   abbrev left_by : List X → Table → List X
@@ -100,7 +100,7 @@ taken_alike a keeps tied =
     (λ k d within. omega (arith, tied.keys k d within, keeps.table_room, keeps.content_room))
     (λ i is. keeps.known i (open_where (kept_at a.blocks.tables i) is)))
 
--- all four are taken where none is free
+-- all four are taken if none is free
 pub all_taken : (free taken : ℕ) → free + taken ≡ 4 → leb 4 taken ≡ eqb free 0
 all_taken zero taken four = grind (arith, nat_tests)
 all_taken (suc free) taken four = grind (arith, nat_tests)

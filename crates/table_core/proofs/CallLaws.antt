@@ -32,14 +32,14 @@ acts_from a b old app call answer is limits made bags =
     let P : Plain → Type 0 = λ o. Acts o (plain_of b) app call answer in
     subst P is (record { made = made; limits = limits; bags = bags })
 
--- where nothing changes
+-- if nothing changes
 pub acts_still : (a : Inside) (old : Plain) (app : ℕ) (call : Call) (answer : TblAnswer) → plain_of a ≡ old →
     step (limits_of a.config) (means a) app call ≡ (answer, means a) → Acts old old app call answer
 acts_still a old app call answer is made =
     let P : Plain → Type 0 = λ o. Acts old o app call answer in
     subst P is (acts_from a a old app call answer is refl made (λ other bag apart holds. holds))
 
--- where the call is refused
+-- if the call is refused
 pub acts_refused : (a : Inside) (old : Plain) (app : ℕ) (call : Call) (status : TblStatus) → plain_of a ≡ old →
     cause (limits_of a.config) (means a) app call ≡ Some status → Acts old old app call (Refused status)
 acts_refused a old app call status is why = acts_still a old app call (Refused status) is (step_by (limits_of a.config) (means a) app call (Some status) why)

@@ -82,7 +82,7 @@ module _ (handles : List Handle) (contents : List (Option Content)) (tables : Li
   pub still_at : (key : ℕ) → key ≢ t.key → content_at changed key ≡ content_at contents key
   still_at key other = ap (λ o. option_map_or (λ (x : Content). x) o no_content) (get_or-set_other contents t.key key (Some c) None other)
 
-  -- the tables, where the contents say what the change does
+  -- the tables, if the contents say what the change does
   pub tables_changed : (change : state.Table → state.Table) → table_with (is_registered handles t) t c ≡ change (table_in handles contents t) →
       map (table_in handles changed) tables ≡ state.with_table change t.number (map (table_in handles contents) tables)
   tables_changed change does =
@@ -98,7 +98,7 @@ module _ (handles : List Handle) (contents : List (Option Content)) (tables : Li
   handle_there : (h : Handle) → h.key ≢ t.key → handle_in changed h ≡ handle_in contents h
   handle_there h other = ap (handle_with h) (still_at h.key other)
 
-  -- the handles, where those of the table are as they were
+  -- the handles, if those of the table are as they were
   pub handles_still : (hs : List Handle) → All (λ h. h.key ≡ t.key → handle_with h c ≡ handle_with h (content_at contents t.key)) hs → map (handle_in changed) hs ≡ map (handle_in contents) hs
   handles_still hs same = map_all (handle_in changed) (handle_in contents) hs (λ k d within. by_key (get_or hs k d) (eqb (get_or hs k d).key t.key) refl (same k d within))
     where
@@ -112,7 +112,7 @@ module _ (handles : List Handle) (contents : List (Option Content)) (tables : Li
       by_key h true is there = handle_here h (is_same h is) ∙ there (is_same h is) ∙ ap (λ key. handle_with h (content_at contents key)) (sym (is_same h is))
       by_key h false is there = handle_there h (is_other h is)
 
-  -- what handles were lent, where it is so for those of the table
+  -- what handles were lent, if it is so for those of the table
   pub views_still : (hs : List Handle) → All (λ h. h.key ≡ t.key → held_by c h ≡ held_by (content_at contents t.key) h) hs → All (λ h. held_view changed h ≡ held_view contents h) hs
   views_still hs same k d within = by_key (get_or hs k d) (eqb (get_or hs k d).key t.key) refl (same k d within)
     where
@@ -130,7 +130,7 @@ module _ (handles : List Handle) (contents : List (Option Content)) (tables : Li
   abbrev one_changed : (state.Handle → state.Handle) → state.Handle → state.Handle
   one_changed change k = cond {A = state.Handle} (eqb k.table t.number) (change k) k
 
-  -- the handles, where those of the table are changed
+  -- the handles, if those of the table are changed
   pub handles_changed : (change : state.Handle → state.Handle) (hs : List Handle) → All (λ h. h.key ≡ t.key → h.table ≡ t.number) hs → All (λ h. h.key ≢ t.key → h.table ≢ t.number) hs →
       All (λ h. h.key ≡ t.key → handle_with h c ≡ change (handle_with h (content_at contents t.key))) hs →
       map (handle_in changed) hs ≡ map (λ (k : state.Handle). cond {A = state.Handle} (eqb k.table t.number) (change k) k) (map (handle_in contents) hs)

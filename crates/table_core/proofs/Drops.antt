@@ -45,7 +45,7 @@ filter_alike p q same [] = refl
 filter_alike {X} p q same (x ∷ xs) =
     ap (λ b. cond {A = List X} b (x ∷ filter p xs) (filter p xs)) (same x) ∙ ap (λ l. cond {A = List X} (q x) (x ∷ l) l) (filter_alike p q same xs)
 
--- a count of what is left is the count, where none of those left out is counted
+-- a count of what is left is the count, if none of those left out is counted
 pub count_left : {X : Type 0} (p q : X → Bool) (xs : List X) → All (λ x. q x ≡ false → p x ≡ false) xs → count_by p (filter q xs) ≡ count_by p xs
 count_left p q [] none = refl
 count_left {X} p q (x ∷ xs) none =

@@ -45,7 +45,7 @@ passes {X} p (y ∷ xs) x here = by_test (p y) refl (λ rest. passes p xs x rest
     by_test true is ih it = ap p (sym (some_is y x it)) ∙ is
     by_test false is ih rest = ih rest
 
--- where none is found none passes
+-- if none is found none passes
 none_passes : {X : Type 0} (p : X → Bool) (xs : List X) → find p xs ≡ None → All (λ x. p x ≡ false) xs
 none_passes {X} p [] is = All-nil (λ x. p x ≡ false)
 none_passes {X} p (x ∷ xs) is = by_test (p x) refl (λ rest. none_passes p xs rest) is
@@ -60,7 +60,7 @@ filter_same {X} p q (x ∷ xs) same =
     ap (λ b. cond {A = List X} b (x ∷ filter p xs) (filter p xs)) (All-head (λ y. p y ≡ q y) x xs same)
     ∙ ap (λ l. cond {A = List X} (q x) (x ∷ l) l) (filter_same p q xs (All-tail (λ y. p y ≡ q y) x xs same))
 
--- a count falls where one that is counted is left out
+-- a count falls if one that is counted is left out
 at_most_left : {X : Type 0} (p q : X → Bool) (xs : List X) → count_by p (filter q xs) ≤ count_by p xs
 at_most_left p q [] = omega arith
 at_most_left {X} p q (x ∷ xs) = by_test (q x) (at_most_left p q xs)
@@ -176,7 +176,7 @@ module _ (s : State) (app n : ℕ) (h : Handle) (first : find (of_app app) s.han
   pub one_fewer : count_by (of_app app) (without_handles (numbered n) s).handles + 1 ≤ count_by (of_app app) s.handles
   one_fewer = fewer_left (of_app app) (λ (k : Handle). not (eqb k.number n)) s.handles h first (ap not (same_n n h.number number))
 
--- and where none is left, all have left
+-- and if none is left, all have left
 pub none_of_app : (s : State) (app : ℕ) → find (of_app app) s.handles ≡ None → without_handles (λ h. false) s ≡ s → without_handles (of_app app) s ≡ s
 none_of_app s app none still =
     ap (λ (left : List Handle). let x : State = record s { handles = left; tables = filter (λ (t : Table). has_handle left t.number) (map (after_leave left) s.tables) } in x)

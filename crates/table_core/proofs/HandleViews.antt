@@ -104,7 +104,7 @@ module _ (f : Handle → Handle) (n : ℕ) (keeps_number : (k : Handle) → (f k
           )
       by_test false other ih rest = omega (arith, sum_by-cons (λ x. one_if (p x)) k (with_handle f n handles), sum_by-cons (λ x. one_if (p x)) k handles, ih rest)
 
-  -- and not at all where the one is not counted
+  -- and not at all if the one is not counted
   pub count_unchanged : (p : Handle → Bool) (handles : List Handle) (h : Handle) → AllPairs (λ earlier later. earlier.number < later.number) handles → handle_at handles n ≡ Some h → p (f h) ≡ p h →
       count_by p (with_handle f n handles) ≡ count_by p handles
   count_unchanged p handles h rise found same = omega (arith, count_changed p handles h rise found, ap one_if same)

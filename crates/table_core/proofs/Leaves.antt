@@ -1,4 +1,4 @@
--- A handle leaves: first what is staged for its table, where it is the owner's, and then the handle.
+-- A handle leaves: first what is staged for its table, if it is the owner's, and then the handle.
 use Rattle.std.proofs.Common.{◌≡◌, ◌≢◌, ℕ, zero, suc, ◌<◌, ◌&&◌, ◌||◌, not, Bool, true, false, cond, eqb, Option, Some, None, is_some, List, [], ◌∷◌, ◌++◌, map, filter, length, get_or, set, count_by, All, refl, ap, sym, ◌∙◌, subst, arith}
 use Rattle.std.specs.List.{list_any, AllPairs}
 use Rattle.std.specs.Option.{IsSome, IsSomeAnd, option_map_or}
@@ -288,7 +288,7 @@ module _ (a : Inside) (keeps : Keeps a) (tied : IsTied a.registry) (n : ℕ) (h 
       not_so (has_handle left h.table) b
       (sym (ap (λ (l : Listing). not (has_handle l.handles (table_under a.registry.handles n))) now ∙ ap (λ m. not (has_handle left m)) table_is) ∙ sym is ∙ same)
 
-  -- Where no handle of the table is left. --
+  -- If no handle of the table is left. --
 
   pub removed : (new : Listing) → new ≡ record a.registry { handles = left } → has_handle left h.table ≡ false → IsSomeAnd (number_at new.tables h.key) (λ number. has_handle new.handles number ≡ false)
   removed new now last =

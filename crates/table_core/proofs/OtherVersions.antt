@@ -46,7 +46,7 @@ none_counted {X} p (x ∷ xs) none =
 abbrev told_with : Handle → ℕ → Option state.Hold → state.Handle
 told_with h version hold = record { number = h.number; app = h.app; table = h.table; marked = not (eqb version h.told); hold = hold }
 
--- where the present version stays, so does what is held of it
+-- if the present version stays, so does what is held of it
 pub held_alike : {X : Type 0} (g : ℕ → LentVersion → X) (old new : Content) → new.version ≡ old.version → new.present ≡ old.present → (o : Option ℕ) → is_other old.version o ≡ false →
     option_map (λ v. g v (version_at new v)) o ≡ option_map (λ v. g v (version_at old v)) o
 held_alike g old new version present None is = refl
@@ -68,7 +68,7 @@ held_here old new version present h none =
     ap (λ v. told_with h v (option_map (hold_of new) h.held)) version
     ∙ ap (told_with h old.version) (held_alike (λ v x. let hold : state.Hold = record { version = v; value = x.bytes } in hold) old new version present h.held none)
 
--- the table is what it was but for what lies beside its present version, where no view was out and none is
+-- the table is what it was but for what lies beside its present version, if no view was out and none is
 pub record KeepsPresent (old new : Content) : Type 0 where
   pub size : new.size ≡ old.size
   pub option : new.option ≡ old.option
@@ -141,7 +141,7 @@ module _ (a : Inside) (keeps : Keeps a) (tied : IsTied a.registry) (h : Handle) 
       other
       (only_key a.registry.tables (get_or a.registry.handles k d).key t.key t.number tied.tables_rise (tied.tables_there k d within ∙ ap (λ n. Some n) same) (ap (option_map (λ (u : Table). u.number)) itself))
 
-  -- where no view of the version before is out, each handle of the table holds the present one or none
+  -- if no view of the version before is out, each handle of the table holds the present one or none
   pub holds_present : (older_in (content_at a.blocks.tables t.key).next).views ≡ 0 → All (λ (k : Handle). k.key ≡ t.key → is_other (content_at a.blocks.tables t.key).version k.held ≡ false) a.registry.handles
   holds_present none k d within same =
       and_so (eqb (get_or a.registry.handles k d).table t.number) (is_other (content_at a.blocks.tables t.key).version (get_or a.registry.handles k d).held)

@@ -63,7 +63,7 @@ pub ended_views : (core : Plain) (s : State) (app : ℕ) (bag : HeldViews) → c
 ended_views core s app bag left holds =
     none_left bag.views (holds.counted ∙ ap (λ (t : State). count_by (λ (h : Handle). eqb h.app app && is_some h.hold) t.handles) left ∙ none_due app s.handles)
 
--- and is as it was but for that, where its room stays
+-- and is as it was but for that, if its room stays
 pub ended_bag : (core : Plain) (s : State) (app : ℕ) (bag new : HeldViews) → core.state ≡ without_handles (λ h. eqb h.app app) s → Holds core app new → new.room ≡ bag.room → new ≡ (record bag { views = [] })
 ended_bag core s app bag new left holds room =
     ap (λ views. let b : HeldViews = record { views = views; room = new.room } in b) (ended_views core s app new left holds)

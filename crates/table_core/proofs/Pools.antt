@@ -36,7 +36,7 @@ fits_alike p account size count is =
     at None e = refl
     at (Some class) e = class_room p account class count is ((position-Some (λ b. leb size b) p.sizes class 0 e).0)
 
--- and where it fits there is a block size for it
+-- and if it fits there is a block size for it
 pub record HasClass (sizes : List ℕ) (size : ℕ) : Type 0 where
   pub class : ℕ
   pub is : class_of size sizes ≡ Some class

@@ -13,7 +13,7 @@ use Rattle.table_blocks.specs.Contents.{Content, is_staged, older_in, with_views
 use Rattle.table_core.specs.Inside.{staged_of, table_with, handle_with, hold_of, is_this, is_other}
 use Rattle.table_core.specs.Views.{held_by, with_back}
 
--- one where it is so
+-- one if it is so
 abbrev pub one_if : Bool → ℕ
 one_if b = cond {A = ℕ} b 1 0
 

@@ -140,7 +140,7 @@ module _ (a : Inside) (keeps : Keeps a) (tied : IsTied a.registry) (app : ℕ) (
   abbrev after : Inside
   after = record a { registry = with_new_handle a.registry app t.number t.key }
 
-  -- the state has the handle too, to be told of the contents where the table was ever loaded
+  -- the state has the handle too, to be told of the contents if the table was ever loaded
   pub new_handle_means : means after ≡ machine.with_new_handle (means a) app t.number (table_in a.registry.handles a.blocks.tables t).loaded
   new_handle_means =
       ap (λ (ts : List state.Table). let s : state.State = record (means after) { tables = ts } in s) (tables_still a.blocks.tables a.registry.made a.registry.handles h refl a.registry.tables tied.tables_made)

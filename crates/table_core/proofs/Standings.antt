@@ -50,7 +50,7 @@ module _ (a : Inside) (core : Plain) (viewed : plain_of a ≡ core) where
         ap (λ (h : state.Handle). h.number) (get_or-map (handle_in a.blocks.tables) a.registry.handles j nobody d (omega (arith, within, long))),
       ))
 
-  -- where none leaves, nothing changes
+  -- if none leaves, nothing changes
   pub still_here : Keeps a → without_handles (λ h. false) core.state ≡ core.state
   still_here keeps = subst (λ (p : Plain). without_handles (λ (h : state.Handle). false) p.state ≡ p.state) viewed stays
     where

@@ -1,4 +1,4 @@
--- What a call by a handle finds of its table, and what is kept where the contents of one table change.
+-- What a call by a handle finds of its table, and what is kept if the contents of one table change.
 use Rattle.std.proofs.Common.{◌≡◌, ◌≢◌, ℕ, suc, ◌+◌, ◌≤◌, ◌&&◌, not, Bool, true, false, cond, eqb, Option, Some, None, is_some, List, [], ◌∷◌, map, length, get_or, set, count_by, All, refl, ap, sym, ◌∙◌, subst, arith}
 use Rattle.std.specs.List.{AllPairs}
 use Rattle.std.specs.Option.{IsSome, option_map_or}
@@ -106,7 +106,7 @@ module _ (a : Inside) (keeps : Keeps a) (tied : IsTied a.registry) (t : Table) (
       by_key true same = keeps.known key (ap (is_open a.blocks.tables) (is_same same) ∙ opened)
       by_key false apart = keeps.known key (ap is_some (sym (still key (other apart))) ∙ now)
 
-  -- what is always so goes on, where it does for the table
+  -- what is always so goes on, if it does for the table
   pub changed_keeps : is_open a.blocks.tables t.key ≡ true → IsFilled a.registry.handles b.tables t → Keeps after
   changed_keeps opened filled = record {
     table_room = keeps.table_room;

@@ -29,7 +29,7 @@ table_by a h t = table_with (is_registered a.registry.handles t) t (content_at a
 
 module _ (a : Inside) (old : Plain) (viewed : plain_of a ≡ old) (tied : IsTied a.registry) (app n : ℕ) (call : Call) (others : state.Table → Option TblStatus)
     (asks : cause (limits_of a.config) (means a) app call ≡ table_cause (means a) app n others) where
-  -- what it is answered where no number is left for a version more
+  -- what it is answered if no number is left for a version more
   behind_last : (why : Option TblStatus) → cause (limits_of a.config) (means a) app call ≡ why → Refused (unwrap_or why InfoTableLocked) ≡ answer_behind_last old app call
   behind_last why is = ap (λ o. Refused (unwrap_or o InfoTableLocked)) (at_core a old viewed (λ limits s. cause limits s app call) why is)
 

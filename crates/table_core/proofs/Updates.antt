@@ -57,7 +57,7 @@ none_next version (Some held) is = next (same (is_so (eqb held version) is))
     next : held ≡ version → eqb held (version + 1) ≡ false
     next is = ap (λ v. eqb v (version + 1)) is ∙ later version
 
--- and by then they hold another one where they held this
+-- and by then they hold another one if they held this
 then_other : (version : ℕ) (o : Option ℕ) → is_other version o ≡ false → is_other (version + 1) o ≡ is_this version o
 then_other version None is = refl
 then_other version (Some held) is = ap not (none_next version (Some held) is) ∙ sym (is_so (eqb held version) is)

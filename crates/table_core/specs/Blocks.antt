@@ -25,7 +25,7 @@ is_version version (Some hold) = hold.version == version
 -- What is kept for a table is the table's: its present value, in one sealed block, of which as many
 -- views are out as handles hold it; of the version in the other block as many as handles hold one
 -- before; what a handle holds has the bytes of the block in which that version lies; its staged
--- value; and its blocks are out of the pool, two where it is double buffered, of the smallest size
+-- value; and its blocks are out of the pool, two if it is double buffered, of the smallest size
 -- that is large enough.
 pub record IsInBlocks (b : Stored) (handles : List Handle) (t : Table) (c : Content) : Type 0 where
   pub size : c.size ≡ t.size

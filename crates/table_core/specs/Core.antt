@@ -13,7 +13,7 @@ use Rattle.tbl_words.specs.Machine.{may_call, cause, step}
 use Rattle.lend_block.specs.Loan.{LentBytes}
 use Rattle.table_blocks.specs.Held.{HeldViews, held_at}
 
--- The number of a live handle, and of the loan of the version that it holds; 0 where it holds none.
+-- The number of a live handle, and of the loan of the version that it holds; 0 if it holds none.
 pub record Lent : Type 0 where
   pub handle : ℕ
   pub loan : ℕ
@@ -36,7 +36,7 @@ abbrev pub view_of : List Lent → Handle → Option LentBytes
 view_of lent h =
     option_map (λ hold. record { loan = loan_of lent h.number; bytes = hold.value }) h.hold
 
--- the view that an application has for the live handle of a number: of what it holds, where it is
+-- the view that an application has for the live handle of a number: of what it holds, if it is
 -- the application's
 abbrev pub view_due : Plain → ℕ → ℕ → Option LentBytes
 view_due core app number =
@@ -113,7 +113,7 @@ abbrev pub HasNextVersion : State → ℕ → Type 0
 HasNextVersion s handle = IfSome (table_of s handle) (λ t. t.version + 1 < 2 ^ 64)
 
 -- What an update or a load is answered that would make a version behind the last: its refusal, or
--- where it has none, that the table is locked.
+-- if it has none, that the table is locked.
 abbrev pub answer_behind_last : Plain → ℕ → Call → TblAnswer
 answer_behind_last core app call =
     Refused (unwrap_or (cause core.limits core.state app call) InfoTableLocked)
@@ -134,7 +134,7 @@ changes_bag (Status handle) = false
 changes_bag End = true
 
 -- the call was answered, and left the state, as the machine does; and what applications hold stays,
--- but for the caller's own where the call changes it
+-- but for the caller's own if the call changes it
 pub record Acts (old new : Plain) (app : ℕ) (call : Call) (answer : TblAnswer) : Type 0 where
   pub made : step old.limits old.state app call ≡ (answer, new.state)
   pub limits : new.limits ≡ old.limits

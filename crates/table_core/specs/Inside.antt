@@ -115,7 +115,7 @@ IsRecent version held = IfSome held (λ v. v ≢ version → v + 1 ≡ version)
 
 -- Of a table: it has contents of its size and option; of each of its two versions as many views are
 -- out as handles hold it; no handle was told of a version that is still to come, or holds one
--- before these two; and nothing is staged where it is unregistered.
+-- before these two; and nothing is staged if it is unregistered.
 pub record IsFilled (handles : List Handle) (contents : List (Option Content))
     (t : Table) : Type 0 where
   pub there : is_open contents t.key ≡ true

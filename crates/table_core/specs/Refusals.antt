@@ -8,24 +8,24 @@ use Rattle.tbl_registry.specs.declared.rows.Handle.{Handle}
 use Rattle.tbl_registry.specs.Listing.{handle_at}
 use Rattle.table_blocks.specs.Contents.{Content, is_double, is_staged, older_in}
 
--- what was found, where nothing refuses it
+-- what was found, if nothing refuses it
 abbrev pub unless : Option TblStatus → Option Handle → Result Handle TblStatus
 unless (Some status) found = Err status
 unless None found = option_map_or Ok found (Err ErrInvalidHandle)
 
--- the live handle of a number, where it is the application's
+-- the live handle of a number, if it is the application's
 abbrev pub own_handle : ℕ → Option Handle → Result Handle TblStatus
 own_handle app found =
     unless
     (handle_cause (is_some found) (option_map_or (λ h. h.app == app) found false) None) found
 
--- the handle, where the one that its table's registration gave is live
+-- the handle, if the one that its table's registration gave is live
 abbrev pub registered_one : List Handle → Result Handle TblStatus → Result Handle TblStatus
 registered_one handles (Ok h) =
     unless (unregistered_cause (is_some (handle_at handles h.table)) None) (Some h)
 registered_one handles (Err status) = Err status
 
--- the live handle of a number, where it is the application's and its table is registered
+-- the live handle of a number, if it is the application's and its table is registered
 abbrev pub own_table : ℕ → ℕ → List Handle → Result Handle TblStatus
 own_table app number handles = registered_one handles (own_handle app (handle_at handles number))
 
@@ -33,7 +33,7 @@ own_table app number handles = registered_one handles (own_handle app (handle_at
 abbrev pub is_partial : Content → ℕ → List ℕ → Bool
 is_partial c offset bytes = c.version == 0 && not (offset == 0 && length bytes == c.size)
 
--- a view is out of the version that lies where a double-buffered table stages
+-- a view is out of the version that lies if a double-buffered table stages
 abbrev pub is_lent_apart : Content → Bool
 is_lent_apart c = is_double c && nat_lt 0 (older_in c.next).views
 

@@ -17,7 +17,7 @@ held_by c h =
 abbrev pub views_of : Handle → ℕ
 views_of h = if is_some h.held then 1 else 0
 
--- the blocks once the view of a version of the table of a key went back, where there was one
+-- the blocks once the view of a version of the table of a key went back, if there was one
 abbrev pub after_back : Stored → ℕ → Option ℕ → Stored
 after_back s key None = s
 after_back s key (Some version) = with_content s key (view_back (content_at s.tables key) version)
@@ -27,7 +27,7 @@ abbrev pub with_back : Content → Option ℕ → Content
 with_back c None = c
 with_back c (Some version) = view_back c version
 
--- the blocks once a handle of the table of a key leaves: where it is the owner's, and something is
+-- the blocks once a handle of the table of a key leaves: if it is the owner's, and something is
 -- staged, that is dropped
 abbrev pub after_owner : Bool → Stored → ℕ → ℕ → Stored
 after_owner owner s key loan =

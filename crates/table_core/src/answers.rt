@@ -28,7 +28,7 @@ pub struct PlainState {
     pub version: u64,
     /// Whether it was ever updated.
     pub loaded: bool,
-    /// 0 where nothing is staged, 1 where something is, 2 where it was validated.
+    /// 0 if nothing is staged, 1 if something is, 2 if it was validated.
     pub staged: u32,
     /// How many handles, of whichever applications, hold a version of it.
     pub holds: u32,

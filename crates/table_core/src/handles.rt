@@ -7,7 +7,7 @@ use fsw_base::AppNo;
 use tbl_registry::{Handle, Registry};
 use tbl_words::TblStatus;
 
-/// The live handle of this number, where it is the application's.
+/// The live handle of this number, if it is the application's.
 pub(crate) fn own_handle(registry: &Registry, app: AppNo, handle: u32) -> Result<Handle, TblStatus>
     ensures { result ≡ own_handle app (handle_at registry.now.handles handle) }
 {
@@ -18,7 +18,7 @@ pub(crate) fn own_handle(registry: &Registry, app: AppNo, handle: u32) -> Result
     }
 }
 
-/// The live handle of this number, where it is the application's and its table is registered.
+/// The live handle of this number, if it is the application's and its table is registered.
 pub(crate) fn own_table(registry: &Registry, app: AppNo, handle: u32) -> Result<Handle, TblStatus>
     ensures { result ≡ own_table app handle registry.now.handles }
 {

@@ -22,7 +22,7 @@ impl<'r> PlainTables<'r> {
     ///
     /// # Errors
     /// `ErrInvalidHandle` for a handle that isn't live; `ErrNoAccess` for one of another
-    /// application; `ErrUnregistered` where the table is registered no more. The first that
+    /// application; `ErrUnregistered` if the table is registered no more. The first that
     /// applies; the bag stays as it was.
     pub fn get_address(
         &mut self,

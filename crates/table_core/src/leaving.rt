@@ -18,7 +18,7 @@ use table_blocks::{HeldTables, TableBlocks};
 use tbl_words::TblStatus;
 
 impl<'r> PlainTables<'r> {
-    /// Gives a handle of the caller's back, with what it holds. Where it is the owner's, the table
+    /// Gives a handle of the caller's back, with what it holds. If it is the owner's, the table
     /// is registered no more: its name is free, and what was staged for it is dropped. With its
     /// last handle a table leaves, and its blocks go back to the pool. At most 16 steps.
     ///
@@ -97,7 +97,7 @@ impl<'r> PlainTables<'r> {
         self.registry.first_of(app)
     }
 
-    // Handles stand in order of number, and where none leaves nothing changes. Does nothing.
+    // Handles stand in order of number, and if none leaves nothing changes. Does nothing.
     fn recall_handles(&self)
         ensures rise { AllPairs
             (λ earlier later. earlier.number < later.number)

@@ -50,7 +50,7 @@ impl<'r> PlainTables<'r> {
     /// of the tables are cut from `region`, the four working buffers from `work`.
     ///
     /// # Errors
-    /// Where memory runs out.
+    /// If memory runs out.
     pub fn new(
         alloc: Global,
         cfg: &Config,

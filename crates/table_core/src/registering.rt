@@ -29,10 +29,10 @@ impl<'r> PlainTables<'r> {
     /// `ErrInvalidName` for a name that hasn't 1 to 15 bytes; `ErrInvalidSize` for 0 bytes or more
     /// than the configuration allows; `ErrInvalidOptions` for an option past 2, and for a rule
     /// whose byte isn't below the size, or whose `low` is above its `high`; `ErrDuplicateNotOwned`
-    /// where another application has registered a table of this name; `ErrDuplicateDiffSize` where
-    /// the caller has, of another size; `ErrRegistryFull` where as many tables have a handle as the
-    /// configuration allows, unregistered ones too; `ErrHandlesFull` where as many handles are live
-    /// as it allows; `ErrMemBlockSize` where the pool hasn't the blocks. The first that applies.
+    /// if another application has registered a table of this name; `ErrDuplicateDiffSize` if
+    /// the caller has, of another size; `ErrRegistryFull` if as many tables have a handle as the
+    /// configuration allows, unregistered ones too; `ErrHandlesFull` if as many handles are live
+    /// as it allows; `ErrMemBlockSize` if the pool hasn't the blocks. The first that applies.
     pub fn register<L: Ledger>(
         &mut self,
         app: AppNo,
@@ -96,7 +96,7 @@ impl<'r> PlainTables<'r> {
     /// A number is left for it, as [`PlainTables::has_handle_number`] tells.
     ///
     /// # Errors
-    /// `ErrInvalidName` where no registered table has the name; `ErrHandlesFull` where as many
+    /// `ErrInvalidName` if no registered table has the name; `ErrHandlesFull` if as many
     /// handles are live as the configuration allows. The first that applies.
     pub fn share(&mut self, app: AppNo, name: &[u8]) -> Result<u32, TblStatus>
         requires may { MayAct self.old app (Share name.now) }
@@ -221,7 +221,7 @@ fn figures(blocks: &TableBlocks<'_>, key: u32) -> PlainState
     }
 }
 
-// 0 where nothing is staged, 1 where something is, 2 where it was validated.
+// 0 if nothing is staged, 1 if something is, 2 if it was validated.
 fn staged_number(blocks: &TableBlocks<'_>, key: u32) -> u32
     requires { is_open blocks.now.tables key ≡ true }
     ensures { result ≡ staged_number (staged_of (content_at blocks.now.tables key).next) }

@@ -59,7 +59,7 @@ fn is_partial(blocks: &TableBlocks<'_>, key: u32, offset: u32, bytes: &[u8]) -> 
     blocks.version(key) == 0 && !(offset == 0 && bytes.len() == blocks.size(key) as usize)
 }
 
-// Whether a view is out of the version that lies where a double-buffered table stages.
+// Whether a view is out of the version that lies if a double-buffered table stages.
 fn is_lent_apart(blocks: &TableBlocks<'_>, key: u32) -> bool
     requires { is_open blocks.now.tables key ≡ true }
     ensures { result ≡ is_lent_apart (content_at blocks.now.tables key) }

@@ -33,7 +33,7 @@ next_is script app p = by (drop p.place lines) refl
     by [] is = ap (λ l. first_table_call r l) is ∙ sym (ap at (no_line_there lines p.place is))
     by (x ∷ left) is = ap (λ l. first_table_call r l) is ∙ sym (ap at (line_there lines p.place x left is).0)
 
--- where the tables see the next line, there is a call
+-- if the tables see the next line, there is a call
 pub call_there : (lines : List Line) (p : TablePlace) → Ready lines p → is_some (call_at lines p) ≡ true
 call_there lines p ready = by (slice_get lines p.place) refl
   where
@@ -43,7 +43,7 @@ call_there lines p ready = by (slice_get lines p.place) refl
 
 -- Past the lines that the tables don't see. --
 
--- where it is before one, that is the first that it goes past
+-- if it is before one, that is the first that it goes past
 pub unseen_first : (app : ℕ) (t : State) (lines : List Line) (line : Line) (p : TablePlace) → is_before_unseen lines p ≡ true → slice_get lines p.place ≡ Some line →
     passed_at_tables app t (drop (p.place + 1) lines) (past_at_tables app t line p) ≡ passed_at_tables app t (drop p.place lines) p
 unseen_first app t lines line p before there =

@@ -1,4 +1,4 @@
--- Where no entry of the tables comes next.
+-- If no entry of the tables comes next.
 use Rattle.std.proofs.Common.{◌≡◌, ℕ, zero, suc, ◌+◌, ◌<◌, ◌≤◌, ◌==◌, ◌&&◌, arith, Bool, true, false, true≢false, eqb-true, List, [], ◌∷◌, ◌++◌, length, refl, ap, sym, ◌∙◌, subst}
 use Rattle.std.proofs.lemmas.Bool.Decides.{nat_tests}
 use Rattle.tbl_words.specs.declared.history.Entry.{Entry}
@@ -52,7 +52,7 @@ one_going s (suc n) none = by (have_all_ended s n) refl (one_going s n)
     by true rest before = record { app = suc n; one = omega arith; few = omega arith; going = sym (ap (λ x. x && has_ended s (suc n)) rest) ∙ none }
     by false rest before = let found = before rest in record { app = found.app; one = found.one; few = omega (arith, found.few); going = found.going }
 
--- so it is where each has, and isn't where one hasn't
+-- so it is if each has, and isn't if one hasn't
 pub each_ended : (s : State) (n : ℕ) → ((app : ℕ) → 1 ≤ app → app ≤ n → has_ended s app ≡ true) → have_all_ended s n ≡ true
 each_ended s zero all = refl
 each_ended s (suc n) all =
@@ -115,7 +115,7 @@ module _ (history : List Entry) (r : Replay) (at : IsReplayed history r) where
       ap (λ t. has_ended t e.app) at.state
       ∙ goes s e.app (legal_last r.script.limits (opening r.script.limits (length r.script.apps)) history e begun.legal).0
 
-  -- where a text begins with the number of none that hasn't ended, it begins with the line of no next entry
+  -- if a text begins with the number of none that hasn't ended, it begins with the line of no next entry
   pub nobodys : (text : List ℕ) →
       ((app : ℕ) → 1 ≤ app → app ≤ length r.script.apps → has_ended r.state app ≡ false → ¬ Begins text (entry_head (r.entries + 1) app)) →
       (e : Entry) → AreBegunTables r.script (history ++ e ∷ []) → ¬ Begins text (entry_head (length history + 1) e.app)

@@ -23,7 +23,7 @@ pub record AreWholeLines (script : ScriptText) (from to : Compared) (r : Replay)
   pub whole : AreWholeTables script history
   pub text : GoesPast from to (table_entries_text history)
 
--- They are the lines of a history, and the one behind them, where the text was then, is that of no
+-- They are the lines of a history, and the one behind them, if the text was then, is that of no
 -- entry that may come next.
 pub record AreWrongLines (script : ScriptText) (from : Compared) (line : ℕ) : Type 0 where
   pub history : List Entry
@@ -37,7 +37,7 @@ abbrev pub AreReplayed : ScriptText → Compared → Compared → TablesReplayed
 AreReplayed script from to (Whole replay) = AreWholeLines script from to replay
 AreReplayed script from to (Wrong line) = AreWrongLines script from line
 
--- what is before the lines on the tables, where the bus has this history
+-- what is before the lines on the tables, if the bus has this history
 abbrev pub before_tables : ScriptText → List BusEntry → List ℕ
 before_tables script history = bus_part script history ++ codes "tables\n"
 

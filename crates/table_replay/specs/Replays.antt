@@ -37,7 +37,7 @@ pub record IsReplayed (history : List Entry) (r : Replay) : Type 0 where
   pub places : (app : ℕ) → 1 ≤ app → app ≤ length r.script.apps →
       slice_get r.places (app - 1) ≡ Some (table_place_after r.script app history)
 
--- where an application is before its first entry
+-- if an application is before its first entry
 abbrev pub first_place : State → ScriptText → ℕ → TablePlace
 first_place s script app = passed_at_tables app s (lines_of script app) first_table_place
 

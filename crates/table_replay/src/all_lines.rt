@@ -19,7 +19,7 @@ pub enum TablesReplayed<'s> {
 /// Judges the lines on the tables with which a text begins, and goes past them.
 ///
 /// # Errors
-/// `AllocError` where memory runs out, or where a number of 32 bits is spent.
+/// `AllocError` if memory runs out, or if a number of 32 bits is spent.
 pub fn replay_tables<'s>(
     alloc: Global,
     script: &'s Script,

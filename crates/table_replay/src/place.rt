@@ -58,7 +58,7 @@ impl AppPlace {
         self.receipts.as_slice()
     }
 
-    /// The bytes that its next line loads; none where it loads none.
+    /// The bytes that its next line loads; none if it loads none.
     pub(crate) fn content(&self, alloc: Global, app: &App) -> Result<Vec<u8>, AllocError>
         ensures { IfOk result (λ made. made.items ≡ content_at app.now.lines self.now) }
     {
@@ -85,7 +85,7 @@ impl AppPlace {
     /// Goes past the lines that the tables don't see.
     ///
     /// # Errors
-    /// `AllocError` where memory runs out.
+    /// `AllocError` if memory runs out.
     pub(crate) fn pass(
         &mut self,
         who: AppNo,
@@ -125,7 +125,7 @@ impl AppPlace {
     /// Goes on behind its next call, which was so answered and left the tables so.
     ///
     /// # Errors
-    /// `AllocError` where memory runs out.
+    /// `AllocError` if memory runs out.
     pub(crate) fn settle(
         &mut self,
         who: AppNo,

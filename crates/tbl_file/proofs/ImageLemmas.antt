@@ -47,7 +47,7 @@ name_ends name h =
     ∙ ap (λ n. take n (name ++ 0 ∷ replicate (39 - length name) 0)) (ends_at name (replicate (39 - length name) 0) (name_visible name h))
     ∙ take_at name (0 ∷ replicate (39 - length name) 0) (length name) refl
 
--- where the first zero byte is known, or that there is none
+-- if the first zero byte is known, or that there is none
 pub zero_at : (field : List ℕ) (end : ℕ) → position (λ byte. eqb byte 0) field ≡ Some end → take end field ≡ before_first (λ byte. eqb byte 0) field
 zero_at field end e = decide (nat_lt (position_or_len (λ byte. eqb byte 0) field) (length field)) e
   where

@@ -33,7 +33,7 @@ is_table_name name =
 abbrev pub sub_in : List ℕ → ℕ
 sub_in file = number_at 4 file
 
--- Offset: where in the table its bytes are loaded
+-- Offset: if in the table its bytes are loaded
 abbrev pub offset_in : List ℕ → ℕ
 offset_in file = number_at 68 file
 

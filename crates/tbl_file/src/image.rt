@@ -54,7 +54,7 @@ pub struct Image<'a> {
     pub description: &'a [u8],
     /// Unused (`Reserved`).
     pub reserved: u32,
-    /// Where in the table its bytes are loaded, in bytes (`Offset`).
+    /// If in the table its bytes are loaded, in bytes (`Offset`).
     pub offset: u32,
     /// The table's name, 1 to 39 visible ASCII characters (`TableName`).
     pub name: &'a [u8],
@@ -62,7 +62,7 @@ pub struct Image<'a> {
     pub bytes: &'a [u8],
 }
 
-/// Why bytes are no image. Where several apply, the first in this order is told.
+/// Why bytes are no image. If several apply, the first in this order is told.
 #[derive(Clone, Copy, Debug, PartialEq, Eq)]
 pub enum ImageFault {
     /// There are more bytes than the caller reads. No reader of this crate tells it.

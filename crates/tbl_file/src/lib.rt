@@ -2,12 +2,12 @@
 //! (`CFE_FS_Header`), the header of a table file (`CFE_TBL_File_Hdr`), and the bytes that are
 //! loaded into the table.
 //!
-//! A file is read exactly where it is an image, and then each field is the file's; else its first
+//! A file is read if and only if it is an image, and then each field is the file's; else its first
 //! fault is told. What is written is an image with the fields that were given. By the code, no call
 //! takes memory.
 //!
 //! ```text
-//! /// Where in its table an image is loaded, and what; None for an image of another table.
+//! /// If in its table an image is loaded, and what; None for an image of another table.
 //! fn load_of<'a>(file: &'a [u8], table: &[u8]) -> Result<Option<(u32, &'a [u8])>, ImageFault>
 //!     requires { length file.now < 2 ^ 32 }
 //! {

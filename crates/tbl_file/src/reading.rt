@@ -13,9 +13,9 @@ use byteorder::{BigEndian, ByteOrder};
 /// Reads a table image, which is the whole file.
 ///
 /// # Errors
-/// `Short` for fewer than 116 bytes; `NotCfe` where the first field isn't 0x63464531; `BadName`
-/// where the name isn't 1 to 39 visible ASCII characters with a zero byte behind them; `Empty`
-/// where the header says no bytes; `Size` where it says another number of bytes than follow; the
+/// `Short` for fewer than 116 bytes; `NotCfe` if the first field isn't 0x63464531; `BadName`
+/// if the name isn't 1 to 39 visible ASCII characters with a zero byte behind them; `Empty`
+/// if the header says no bytes; `Size` if it says another number of bytes than follow; the
 /// first of these that applies.
 #[tactic(auto, unfolding(crate::specs::Image::image_fault))]
 pub fn read_image(file: &[u8]) -> Result<Image<'_>, ImageFault>

@@ -196,7 +196,7 @@ address_for told handle n gives = by_tests (eqb handle n) (is_address (addressed
     by_tests true y is both = (eqb-true handle n is, both)
     by_tests false y is both = absurd (true≢false (sym both))
 
--- where an address is given the views for other handles stay, and where none is, all do
+-- if an address is given the views for other handles stay, and if none is, all do
 pub address_stays : (bag new : HeldViews) (told : Result Address TblStatus) (handle : ℕ) → ((n : ℕ) → eqb handle n ≡ false → held_at new n ≡ held_at bag n) → OnErr told (new ≡ bag) →
     (n : ℕ) → gives_for n (GetAddress handle) (addressed told) ≡ false → is_some (held_at new n) ≡ true → held_at new n ≡ held_at bag n
 address_stays bag new (Err status) handle others unchanged n none some = ap (λ (h : HeldViews). held_at h n) unchanged
@@ -206,7 +206,7 @@ address_stays bag new (Ok address) handle others unchanged n none some = by_test
     by_test true is none = absurd (true≢false none)
     by_test false is none = others n is
 
--- where a view is taken those for other handles stay
+-- if a view is taken those for other handles stay
 pub taken_stays : (bag new : HeldViews) (told : Result (Unit {0}) TblStatus) (handle : ℕ) → ((n : ℕ) → eqb handle n ≡ false → held_at new n ≡ held_at bag n) → OnOk told (held_at new handle ≡ None) → OnErr told (new ≡ bag) →
     (n : ℕ) → is_some (held_at new n) ≡ true → held_at new n ≡ held_at bag n
 taken_stays bag new (Err status) handle others gone unchanged n some = ap (λ (h : HeldViews). held_at h n) unchanged

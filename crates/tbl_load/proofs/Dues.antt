@@ -36,7 +36,7 @@ viewed-alike loan other None same = refl
 viewed-alike loan other (Some h) same = ap (λ n. viewed n (Some h)) (same refl)
 
 module _ (first second : ℕ → ℕ) (app : ℕ) (handles : List Handle) (same : (n : ℕ) → is_some (hold_of handles n) ≡ true → first n ≡ second n) where
-  -- loans that are the same where something is held make the same due
+  -- loans that are the same if something is held make the same due
   pub due_alike : (n : ℕ) → due_by first app (handle_at handles n) ≡ due_by second app (handle_at handles n)
   due_alike n = by_found (handle_at handles n) refl
     where
@@ -190,7 +190,7 @@ dues_same old new app rise keeps n =
     } in
     sym ((keeps (due_bag old app) has).seen n) ∙ has.seen n
 
--- where the same is due for a handle that holds something, it held something before, by the same loan
+-- if the same is due for a handle that holds something, it held something before, by the same loan
 pub kept_from : (old new : Plain) (n : ℕ) (h : Handle) → handle_at new.state.handles n ≡ Some h → is_some h.hold ≡ true → view_due new h.app n ≡ view_due old h.app n →
     (is_some (hold_of old.state.handles n) ≡ true) × (loan_of new.lent n ≡ loan_of old.lent n)
 kept_from old new n h at some same = by_hold h.hold refl some

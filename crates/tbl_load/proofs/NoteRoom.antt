@@ -1,4 +1,4 @@
--- The room for notes, where a call may be entered.
+-- The room for notes, if a call may be entered.
 use Rattle.std.proofs.Common.{◌≡◌, ℕ, ◌+◌, ◌<◌, ◌≤◌, length, ap, ◌∙◌, arith}
 use Rattle.std.proofs.lemmas.List.{length_push}
 use Rattle.tbl_words.specs.declared.history.Entry.{Entry}

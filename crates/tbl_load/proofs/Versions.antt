@@ -1,4 +1,4 @@
--- Versions that are answered are those of tables, and fit into 32 bits where these do.
+-- Versions that are answered are those of tables, and fit into 32 bits if these do.
 use Rattle.std.proofs.Common.{◌≡◌, ℕ, ◌+◌, ◌^◌, ◌<◌, Bool, true, false, cond, eqb, Option, Some, None, IfSome, List, [], ◌∷◌, find, All, subst, arith}
 use Rattle.std.specs.Option.{option_map_or, option_and_then}
 use Rattle.std.proofs.lemmas.List.Elements.{All-head, All-tail}
@@ -11,7 +11,7 @@ use Rattle.tbl_words.specs.declared.history.Call.TheVariants.{GetAddress, Status
 use Rattle.tbl_words.specs.Tables.{Table, Handle, State, handle_at, table_at, table_of}
 use Rattle.tbl_words.specs.Machine.{cause, outcome, step, told_of, figures_of}
 
--- the number of a version that an answer tells; 0 where it tells none
+-- the number of a version that an answer tells; 0 if it tells none
 abbrev pub version_in : TblAnswer → ℕ
 version_in answers.Done = 0
 version_in (answers.Number number) = 0

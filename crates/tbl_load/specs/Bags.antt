@@ -38,7 +38,7 @@ KeepsOtherBags old new app =
 abbrev pub bytes_seen : HeldViews → ℕ → Option (List ℕ)
 bytes_seen bag number = option_map (λ view. view.bytes) (held_at bag number)
 
--- the bytes that the live handle of a number holds, where it is the application's
+-- the bytes that the live handle of a number holds, if it is the application's
 abbrev pub held_bytes : State → ℕ → ℕ → Option (List ℕ)
 held_bytes s app number =
     option_and_then (λ h. if h.app == app then option_map (λ hold. hold.value) h.hold else None)

@@ -17,7 +17,7 @@ pub record NotedLog : Type 0 where
   pub notes : List Note
   pub peak : TblUse
 
--- the note of an entry with this answer: the loan of the view that was given where an address was,
+-- the note of an entry with this answer: the loan of the view that was given if an address was,
 -- else nothing
 abbrev pub note_due : TblAnswer → ℕ → Note
 note_due (Address told version) loan = Loan (record { loan = loan })
@@ -33,7 +33,7 @@ AreDue [] [] = Unit {0}
 AreDue (e ∷ es) (note ∷ notes) = IsDue e.answer note × AreDue es notes
 AreDue es notes = ⊥
 
--- the loan that a note names; 0 where it names none
+-- the loan that a note names; 0 if it names none
 abbrev pub loan_in : Note → ℕ
 loan_in Nothing = 0
 loan_in (Desc desc) = 0
@@ -49,18 +49,18 @@ abbrev pub gives_for : ℕ → Call → TblAnswer → Bool
 gives_for number (GetAddress handle) answer = handle == number && is_address answer
 gives_for number call answer = false
 
--- the loan noted of the handle after these entries, where it was this loan before them
+-- the loan noted of the handle after these entries, if it was this loan before them
 abbrev pub noted_from : ℕ → ℕ → List Entry → List Note → ℕ
 noted_from number loan (e ∷ es) (note ∷ notes) =
     noted_from number (if gives_for number e.call e.answer then loan_in note else loan) es notes
 noted_from number loan es notes = loan
 
 -- the loan noted of the handle of this number: that of the newest entry that gave it an address; 0
--- where none did
+-- if none did
 abbrev pub noted : ℕ → List Entry → List Note → ℕ
 noted number entries notes = noted_from number 0 entries notes
 
--- what is noted of a call that was so answered, where the bag has this view for the handle
+-- what is noted of a call that was so answered, if the bag has this view for the handle
 abbrev pub note_seen : TblAnswer → Option LentBytes → Note
 note_seen (Address told version) (Some view) = Loan (record { loan = view.loan })
 note_seen answer view = Nothing

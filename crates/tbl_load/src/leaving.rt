@@ -16,7 +16,7 @@ use table_blocks::HeldTables;
 use tbl_words::{TblAnswer, TblCall, TblEntry, TblStatus};
 
 impl<'r> TblCore<'r> {
-    /// Gives a handle of the caller's back, with what it holds. Where it is the owner's, the table
+    /// Gives a handle of the caller's back, with what it holds. If it is the owner's, the table
     /// is registered no more: its name is free, and what was staged for it is dropped. With its
     /// last handle a table leaves, and its blocks go back to the pool. At most 16 steps.
     ///

@@ -17,11 +17,11 @@ impl<'r> TblCore<'r> {
     ///
     /// # Errors
     /// `ErrInvalidHandle` for a handle that isn't live; `ErrNoAccess` for one of another
-    /// application; `ErrUnregistered` where the table is registered no more; `ErrDumpOnly` where no
-    /// load of it is allowed; `ErrFileTooLarge` where the bytes go past its end; `ErrPartialLoad`
-    /// where it was never loaded and they aren't all of it; `ErrLoadInProgress` where a value is
-    /// staged already; `InfoTableLocked` where it is double buffered, and an application holds a
-    /// version other than the present one; `ErrNoBufferAvail` where it is single buffered, and four
+    /// application; `ErrUnregistered` if the table is registered no more; `ErrDumpOnly` if no
+    /// load of it is allowed; `ErrFileTooLarge` if the bytes go past its end; `ErrPartialLoad`
+    /// if it was never loaded and they aren't all of it; `ErrLoadInProgress` if a value is
+    /// staged already; `InfoTableLocked` if it is double buffered, and an application holds a
+    /// version other than the present one; `ErrNoBufferAvail` if it is single buffered, and four
     /// such tables have a staged value. The first that applies.
     pub fn stage(
         &mut self,
@@ -53,7 +53,7 @@ impl<'r> TblCore<'r> {
     ///
     /// # Errors
     /// `ErrInvalidHandle` for a handle that isn't live; `ErrNoAccess` for one of another
-    /// application; `ErrUnregistered` where the table is registered no more; `NoLoad` where nothing
+    /// application; `ErrUnregistered` if the table is registered no more; `NoLoad` if nothing
     /// is staged; `Validation` with the number, from 1, of the first rule that the value fails: it
     /// stays staged, and isn't validated. The first that applies.
     pub fn validate(&mut self, app: AppNo, handle: u32) -> Result<(), TblStatus>
@@ -77,9 +77,9 @@ impl<'r> TblCore<'r> {
     ///
     /// # Errors
     /// `ErrInvalidHandle` for a handle that isn't live; `ErrNoAccess` for one of another
-    /// application; `ErrUnregistered` where the table is registered no more; `InfoNoUpdatePending`
-    /// where nothing is staged; `NotValidated` where the staged value wasn't validated;
-    /// `InfoTableLocked` where the table is single buffered, and an application holds it. The first
+    /// application; `ErrUnregistered` if the table is registered no more; `InfoNoUpdatePending`
+    /// if nothing is staged; `NotValidated` if the staged value wasn't validated;
+    /// `InfoTableLocked` if the table is single buffered, and an application holds it. The first
     /// that applies.
     pub fn update(&mut self, app: AppNo, handle: u32) -> Result<(), TblStatus>
         requires may { MayCall self.old app (Update handle) }
@@ -101,7 +101,7 @@ impl<'r> TblCore<'r> {
     ///
     /// # Errors
     /// `ErrInvalidHandle` for a handle that isn't live; `ErrNoAccess` for one of another
-    /// application; `ErrUnregistered` where the table is registered no more; `NoLoad` where nothing
+    /// application; `ErrUnregistered` if the table is registered no more; `NoLoad` if nothing
     /// is staged. The first that applies.
     pub fn abort_load(&mut self, app: AppNo, handle: u32) -> Result<(), TblStatus>
         requires may { MayCall self.old app (Abort handle) }
@@ -121,12 +121,12 @@ impl<'r> TblCore<'r> {
 
     /// Makes the present value of the table of a handle of the caller's, with the bytes from
     /// `offset` on replaced by these, its present one, a version later: as `stage`, `validate` and
-    /// `update` in one. By the code no working buffer is used; it is refused all the same where
+    /// `update` in one. By the code no working buffer is used; it is refused all the same if
     /// four are taken.
     ///
     /// # Errors
     /// Those of [`TblCore::stage`]; then `Validation` with the number, from 1, of the first rule
-    /// that the new value fails; then `InfoTableLocked` where the table is single buffered, and an
+    /// that the new value fails; then `InfoTableLocked` if the table is single buffered, and an
     /// application holds it. The first that applies.
     pub fn load(
         &mut self,

@@ -44,7 +44,7 @@ impl NotedJournal {
     /// Without an entry, for the applications that have these budgets; nothing was in use.
     ///
     /// # Errors
-    /// Where memory runs out.
+    /// If memory runs out.
     pub(crate) fn new(alloc: Global, budgets: &[Budget]) -> Result<NotedJournal, AllocError>
         requires { AreBudgets budgets.now }
         ensures { IfOk result
@@ -122,7 +122,7 @@ fn greater_of(one: TblUse, other: TblUse) -> TblUse
     }
 }
 
-/// What is noted of a call that was so answered: where it gave an address, the loan of the view
+/// What is noted of a call that was so answered: if it gave an address, the loan of the view
 /// that the bag has for the handle.
 pub(crate) fn note_of(answer: TblAnswer, held: &HeldTables<'_>, handle: u32) -> Note
     ensures { result ≡ note_seen answer (held_at held.now handle) }

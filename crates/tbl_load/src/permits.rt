@@ -10,7 +10,7 @@ use tbl_words::{Allowance, TblCall};
 
 impl TblCore<'_> {
     /// Whether the application may make this call now, which is the condition of the call, beside
-    /// that on its bag where it takes one along: the core serves it, it hasn't ended, it has an
+    /// that on its bag if it takes one along: the core serves it, it hasn't ended, it has an
     /// entry and the call's bytes left, and what is loaded has 1 to 65536 bytes from an offset of
     /// at most 65536 on.
     pub fn may_make(&self, app: AppNo, call: &TblCall<'_>) -> bool

@@ -25,10 +25,10 @@ impl<'r> TblCore<'r> {
     /// `ErrInvalidName` for a name that hasn't 1 to 15 bytes; `ErrInvalidSize` for 0 bytes or more
     /// than the configuration allows; `ErrInvalidOptions` for an option past 2, and for a rule
     /// whose byte isn't below the size, or whose `low` is above its `high`; `ErrDuplicateNotOwned`
-    /// where another application has registered a table of this name; `ErrDuplicateDiffSize` where
-    /// the caller has, of another size; `ErrRegistryFull` where as many tables have a handle as the
-    /// configuration allows, unregistered ones too; `ErrHandlesFull` where as many handles are live
-    /// as it allows; `ErrMemBlockSize` where the pool hasn't the blocks. The first that applies.
+    /// if another application has registered a table of this name; `ErrDuplicateDiffSize` if
+    /// the caller has, of another size; `ErrRegistryFull` if as many tables have a handle as the
+    /// configuration allows, unregistered ones too; `ErrHandlesFull` if as many handles are live
+    /// as it allows; `ErrMemBlockSize` if the pool hasn't the blocks. The first that applies.
     pub fn register<L: Ledger>(
         &mut self,
         app: AppNo,
@@ -65,7 +65,7 @@ impl<'r> TblCore<'r> {
     /// Handles are numbered 1, 2, 3 and so on, and no number is used again.
     ///
     /// # Errors
-    /// `ErrInvalidName` where no registered table has the name; `ErrHandlesFull` where as many
+    /// `ErrInvalidName` if no registered table has the name; `ErrHandlesFull` if as many
     /// handles are live as the configuration allows. The first that applies.
     pub fn share(&mut self, app: AppNo, name: &[u8]) -> Result<u32, TblStatus>
         requires may { MayCall self.old app (Share name.now) }

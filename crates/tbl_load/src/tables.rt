@@ -61,7 +61,7 @@ impl<'r> TblCore<'r> {
     /// largest table.
     ///
     /// # Errors
-    /// Where memory runs out.
+    /// If memory runs out.
     pub fn new(
         alloc: Global,
         cfg: &Config,
@@ -132,7 +132,7 @@ impl<'r> TblCore<'r> {
         self.core.recall_apart(handle, other);
     }
 
-    /// What was noted beside the journal's entry of this number, from 0: a loan where its call gave
+    /// What was noted beside the journal's entry of this number, from 0: a loan if its call gave
     /// an address, else nothing. The loan of a handle's newest address is that of the view which
     /// its application's bag has for it.
     pub fn note(&self, i: u32) -> Note

@@ -21,7 +21,7 @@ is_other m n is same = grind (arith, nat_tests)
 some_is : {X : Type 0} (x y : X) → Some x ≡ Some y → x ≡ y
 some_is x y is = ap (λ o. option_map_or (λ z. z) o x) is
 
--- another table has a handle exactly where it had one
+-- another table has a handle if and only if it had one
 others_keep : (handles : List Handle) (n table : ℕ) → AreRising handles → is_live handles n ≡ true → table ≢ table_under handles n → has_handle (without_handle n handles) table ≡ has_handle handles table
 others_keep [] n table rising live other = refl
 others_keep (h ∷ handles) n table rising live other =
@@ -90,7 +90,7 @@ either_way tables key number rising there = by_found (table_at tables key) refl 
         ∙ ap Some (at.here t)
         ∙ sym is
 
--- two tables are one where a relation that no two have holds of both
+-- two tables are one if a relation that no two have holds of both
 one_place : (R : Table → Table → Type 0) (tables : List Table) (i j : ℕ) (d : Table) → AllPairs (λ earlier later. R earlier later → ⊥) tables → i < length tables → j < length tables → R (get_or tables i d) (get_or tables j d) → R (get_or tables j d) (get_or tables i d) → i ≡ j
 one_place R tables i j d apart inside within one other = by_order (cases_lt i j)
   where

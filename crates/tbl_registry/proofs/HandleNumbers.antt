@@ -33,7 +33,7 @@ first_below h handles n i rising has = other_number h.number n (λ same. omega (
 pub later_others : (h : Handle) (handles : List Handle) (n : ℕ) → AreRising (h ∷ handles) → h.number ≡ n → All (λ other. other.number ≢ n) handles
 later_others h handles n rising is k d within same = omega (arith, same, is, rising 0 (suc k) d (omega arith) (omega (arith, within)))
 
--- Where there is one. --
+-- If there is one. --
 
 pub found : (handles : List Handle) (n i : ℕ) (d : Handle) → AreRising handles → HasNumber handles n i → handle_at handles n ≡ Some (get_or handles i d)
 found [] n i d rising has = absurd (omega (arith, has.0))
@@ -78,7 +78,7 @@ removed (h ∷ handles) n (suc i) rising has =
     ap (λ l. h ∷ l) (removed handles n i (rising_tail h handles rising) (number_tail h handles n i has))
     ∙ sym (ap (λ b. cond {A = List Handle} (not b) (h ∷ without_handle n handles) (without_handle n handles)) (first_below h handles n i rising has))
 
--- Where there is none. --
+-- If there is none. --
 
 pub missed : (handles : List Handle) (n : ℕ) → All (λ h. h.number ≢ n) handles → handle_at handles n ≡ None
 missed [] n others = refl
@@ -92,7 +92,7 @@ not_live handles n others = list_any_none (λ h. eqb h.number n) handles (λ k d
 pub unchanged : (f : Handle → Handle) (handles : List Handle) (n : ℕ) → All (λ h. h.number ≢ n) handles → handles ≡ with_handle f n handles
 unchanged f handles n others = sym (others_changed f handles n others)
 
--- where the one of a number was left out
+-- if the one of a number was left out
 pub gone : (handles : List Handle) (n : ℕ) → handle_at (without_handle n handles) n ≡ None
 gone [] n = refl
 gone (h ∷ handles) n = by_test (gone handles n) (eqb h.number n) refl

@@ -23,7 +23,7 @@ use Rattle.tbl_registry.proofs.HandleNumbers.{same_number, other_number, later_o
 alike_any : (p : HandleFacts → Bool) (hs : List state.Handle) (ks : List Handle) → map handle_facts_of hs ≡ map handle_facts_in ks → list_any (λ h. p (handle_facts_of h)) hs ≡ list_any (λ h. p (handle_facts_in h)) ks
 alike_any p hs ks is = sym (list_any-map p handle_facts_of hs) ∙ ap (list_any p) is ∙ list_any-map p handle_facts_in ks
 
--- of the handles of one number, which rise, one passes exactly where the one found does
+-- of the handles of one number, which rise, one passes if and only if the one found does
 passes_found : (q : Handle → Bool) (handles : List Handle) (n : ℕ) → AreRising handles → list_any (λ h. eqb h.number n && q h) handles ≡ option_map_or q (handle_at handles n) false
 passes_found q [] n rising = refl
 passes_found q (h ∷ handles) n rising =

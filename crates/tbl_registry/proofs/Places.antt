@@ -145,7 +145,7 @@ left_in shelf (k ∷ keys) key filed =
         ∙ sym (ap (λ o. without_table key (option_to_list o ++ tables_in shelf keys)) here.there
         ∙ ap (λ b. cond {A = List Table} (not b) (here.t ∷ without_table key (tables_in shelf keys)) (without_table key (tables_in shelf keys))) (other_number here.t.key key (λ same. is_other k key is (sym here.known ∙ same))))
 
--- where no other table has the key, one fewer is left
+-- if no other table has the key, one fewer is left
 none_out : (tables : List Table) (key : ℕ) → All (λ t. t.key ≢ key) tables → without_table key tables ≡ tables
 none_out [] key others = refl
 none_out (t ∷ tables) key others =

@@ -23,7 +23,7 @@ beyond [] i d le = refl
 beyond (x ∷ xs) zero d le = absurd (omega (arith, le))
 beyond (x ∷ xs) (suc i) d le = beyond xs i d (omega (arith, le))
 
--- what a place has is what lies in the slab where it says
+-- what a place has is what lies in the slab if it says
 pub reads : (slab : Slab Table) (at : List (Option ℕ)) (i : ℕ) → table_in (shelf_of slab at) i ≡ lies_at slab (get_or at i None)
 reads slab [] i = refl
 reads slab (o ∷ at) zero = refl
@@ -179,7 +179,7 @@ pub none_shelf : (slab : Slab Table) (places : ℕ) → shelf_of slab (replicate
 none_shelf slab zero = refl
 none_shelf slab (suc n) = ap (λ l. None ∷ l) (none_shelf slab n)
 
--- where a place is free, a search doesn't miss it
+-- if a place is free, a search doesn't miss it
 pub all_taken : (xs : List (Option Table)) → count_by is_some xs < length xs → ((i : ℕ) → i < length xs → is_some (get_or xs i None) ≡ true) → ⊥
 all_taken [] less taken = omega (arith, less)
 all_taken (x ∷ xs) less taken = all_taken xs (omega (arith, less, first)) (λ i within. taken (suc i) (omega (arith, within)))
@@ -187,7 +187,7 @@ all_taken (x ∷ xs) less taken = all_taken xs (omega (arith, less, first)) (λ 
     first : count_by is_some (x ∷ xs) ≡ 1 + count_by is_some xs
     first = sum_by-cons (λ (o : Option Table). cond (is_some o) 1 0) x xs ∙ ap (λ b. cond {A = ℕ} b 1 0 + count_by is_some xs) (taken 0 (omega arith))
 
--- so where there are fewer tables than places, not all places have a slab's key
+-- so if there are fewer tables than places, not all places have a slab's key
 pub not_all : (slab : Slab Table) (at : List (Option ℕ)) → IsShelf slab at → count_by is_some (shelf_of slab at) < length (shelf_of slab at) → All (λ o. is_some o ≡ true) at → ⊥
 not_all slab at shelf less taken = all_taken (shelf_of slab at) less (λ i within. ap is_some (reads slab at i) ∙ by_key i (get_or at i None) refl (taken i None (omega (arith, within, length-map at (lies_at slab)))))
   where

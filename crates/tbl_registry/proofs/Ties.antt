@@ -45,7 +45,7 @@ found_new tables t none =
     ∙ ap (λ o. option_map (λ (other : Table). other.number) (option_or o (table_at (t ∷ []) t.key))) none
     ∙ ap (λ b. option_map (λ (other : Table). other.number) (cond {A = Option Table} b (Some t) None)) (same_number t.key t.key refl)
 
--- and another one is found as before where one is taken out
+-- and another one is found as before if one is taken out
 found_apart : (tables : List Table) (key other : ℕ) → other ≢ key → table_at (without_table key tables) other ≡ table_at tables other
 found_apart [] key other apart = refl
 found_apart (t ∷ tables) key other apart = by_test (found_apart tables key other apart) (eqb t.key key) refl

@@ -1,4 +1,4 @@
--- Where the registry keeps its tables: each in a place of its own, whose number is its key, and
+-- If the registry keeps its tables: each in a place of its own, whose number is its key, and
 -- which says where in a slab the table lies.
 use Rattle.std.specs.Prelude.{◌≡◌, ℕ, ◌<◌, ◌≤◌, true, List, [], ◌∷◌, ◌++◌, map, length, count_by, slice_index_or, All, Option, Some, None, is_some}
 use Rattle.std.specs.List.{AllPairs}

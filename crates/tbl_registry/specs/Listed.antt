@@ -80,7 +80,7 @@ pub record FindsAlike (s : state.State) (l : Listing) : Type 0 where
       option_map facts_of (state.table_named s.tables name) ≡
       option_map (facts_in l.handles) (table_named l name)
 
--- whatever the state, where the registry lists it
+-- whatever the state, if the registry lists it
 abbrev pub ListedFindAlike : Type 0
 ListedFindAlike = (s : state.State) (l : Listing) → IsTied l → IsListed s l → FindsAlike s l
 
@@ -99,7 +99,7 @@ NewTablesAreListed =
     IsTied old → IsListed s old → AddsTable old new app name size option rules →
     IsListed (machine.with_new_table limits s app name size option rules) new
 
--- a handle leaves, and where it was its table's last one the table leaves too
+-- a handle leaves, and if it was its table's last one the table leaves too
 abbrev pub without_handle_of : Listing → ℕ → Listing
 without_handle_of l number =
     let left = without_handle number l.handles in
@@ -120,7 +120,7 @@ AllHaveHandles l = All (λ t. has_handle l.handles t.number ≡ true) l.tables
 abbrev pub key_under : List Handle → ℕ → ℕ
 key_under handles number = option_map_or (λ h. h.key) (handle_at handles number) 0
 
--- so it is listed once the handle was dropped, and where it was its table's last one the table was
+-- so it is listed once the handle was dropped, and if it was its table's last one the table was
 -- removed by its key
 abbrev pub DropsAreLeaves : Type 0
 DropsAreLeaves =

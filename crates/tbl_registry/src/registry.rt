@@ -60,7 +60,7 @@ impl Registry {
     /// call takes memory.
     ///
     /// # Errors
-    /// `AllocError` where memory runs out.
+    /// `AllocError` if memory runs out.
     pub fn new(alloc: Global, tables: u32, handles: u32) -> Result<Registry, AllocError>
         ensures { IfOk result (λ registry. registry ≡
             record {
@@ -243,7 +243,7 @@ impl Registry {
     }
 
     /// The application of the live handle of this number is told of a version of its table, and
-    /// holds it; no effect where none is live.
+    /// holds it; no effect if none is live.
     pub fn hold(&mut self, handle: u32, version: u64)
         ensures { self.new ≡
             record self.old {
@@ -260,7 +260,7 @@ impl Registry {
         }
     }
 
-    /// The live handle of this number holds nothing any more; no effect where none is live.
+    /// The live handle of this number holds nothing any more; no effect if none is live.
     pub fn let_go(&mut self, handle: u32)
         ensures { self.new ≡
             record self.old { handles = with_handle without_hold handle self.old.handles } }
@@ -288,7 +288,7 @@ fn new_handle(number: u32, app: AppNo, table: u32, key: usize) -> Handle
     }
 }
 
-// The owner's handle, where it is live.
+// The owner's handle, if it is live.
 fn owner_of(handles: &[Handle], number: u32) -> Option<u32>
     requires { AreRising handles.now }
     ensures { result ≡ (if is_live handles.now number then Some number else None) }
@@ -300,7 +300,7 @@ fn owner_of(handles: &[Handle], number: u32) -> Option<u32>
     }
 }
 
-// The key of the table in a place, where it is registered and has the name.
+// The key of the table in a place, if it is registered and has the name.
 fn key_where_named(shelf: &Shelf, handles: &[Handle], key: usize, name: &[u8]) -> Option<usize>
     requires { AreRising handles.now }
     ensures { result ≡

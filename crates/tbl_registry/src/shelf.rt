@@ -49,7 +49,7 @@ impl Model for TableEntry {
 pub(crate) struct Shelf {
     // The tables. The slab bounds its keys by nothing that its maker knows.
     slab: Slab<TableEntry>,
-    // For each place the slab's key of its table; None where the place is free.
+    // For each place the slab's key of its table; None if the place is free.
     at: Vec<Option<usize>>,
 }
 

@@ -20,7 +20,7 @@ is_met value rule =
     nat_le rule.low (slice_index value rule.offset) &&
     nat_le (slice_index value rule.offset) rule.high
 
--- the number, from 1, of the first rule that a value fails; none where it meets them all
+-- the number, from 1, of the first rule that a value fails; none if it meets them all
 abbrev pub failed_rule : List Rule → List ℕ → Option ℕ
 failed_rule rules value =
     option_map (λ place. place + 1) (position (λ rule. not (is_met value rule)) rules)

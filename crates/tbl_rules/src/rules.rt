@@ -47,7 +47,7 @@ impl RuleList {
         }
     }
 
-    /// These rules; None exactly where there are too many.
+    /// These rules; None if and only if there are too many.
     pub fn try_new(rules: &[Rule]) -> Option<RuleList>
         ensures valid { IsSome result ↔ (length rules.now ≤ MAX_RULES) }
         ensures value { IfSome result (λ kept. kept ≡ rules.now) }

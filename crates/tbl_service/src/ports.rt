@@ -79,7 +79,7 @@ impl<'r> TblPort<'r> {
         self.port.permits().left.bytes
     }
 
-    /// The bytes of the version that a handle holds, whatever was loaded since; None exactly where
+    /// The bytes of the version that a handle holds, whatever was loaded since; None if and only if
     /// it holds nothing, or isn't this application's. Takes neither the lock nor the runtime.
     pub fn held(&self, handle: u32) -> Option<&[u8]>
         ensures held { option_map (λ bytes. bytes.now) result ≡

@@ -44,7 +44,7 @@ impl<'r> Tables<'r> {
     /// part.
     ///
     /// # Errors
-    /// Where memory runs out.
+    /// If memory runs out.
     pub fn new(
         alloc: Global,
         cfg: &Config,
@@ -77,7 +77,7 @@ impl<'r> Tables<'r> {
     /// no call, and holds nothing.
     ///
     /// # Errors
-    /// Where memory runs out: the application has no port then, and may still get one.
+    /// If memory runs out: the application has no port then, and may still get one.
     pub fn port(
         &self,
         alloc: Global,

@@ -1,4 +1,4 @@
--- Who has ended, and whose the live handles are: an application that has ended has none, so where all have ended nothing is left.
+-- Who has ended, and whose the live handles are: an application that has ended has none, so if all have ended nothing is left.
 use Rattle.std.proofs.Common.{◌≡◌, ℕ, zero, suc, ◌+◌, ◌-◌, ◌<◌, ◌≤◌, ◌⊎◌, inl, inr, ◌==◌, ◌&&◌, ◌||◌, if◌then◌else◌, not, Bool, true, false, cond, true≢false, eq-eqb, ne_eqb, List, [], ◌∷◌, length, get_or, map, filter, slice_index_or, slice_set, All, Option, Some, None, IsTrue, refl, ap, sym, ◌∙◌, subst, arith}
 use Rattle.std.proofs.lemmas.Bool.{cases_lt}
 use Rattle.std.proofs.lemmas.List.{get_or-set_other, get_or_past, length-set, length-replicate}
@@ -31,7 +31,7 @@ pub has_number : (ended : List Bool) (app : ℕ) → is_closed ended app ≡ fal
 has_number ended zero going = absurd (true≢false going)
 has_number ended (suc app) going = omega arith
 
--- where an application ends, no other does
+-- if an application ends, no other does
 pub closed-other : (ended : List Bool) (app other : ℕ) → 1 ≤ app → 1 ≤ other → (other == app) ≡ false → is_closed (slice_set ended (app - 1) true) other ≡ is_closed ended other
 closed-other ended app other first second differ =
     let apart : (other - 1 ≡ app - 1) → ⊥ = λ same. true≢false (sym (eq-eqb other app (omega (arith, same, first, second))) ∙ differ) in
@@ -294,12 +294,12 @@ all_ended s apps many over (suc app) = by_place (cases_lt apps (suc app))
           | false ↦ get_or_past s.ended (suc app - 1) true (omega (arith, many, past))
         ]
 
--- where all have ended no handle is left
+-- if all have ended no handle is left
 no_handles : (s : State) (handles : List Handle) → All (λ (h : Handle). has_ended s h.app ≡ false) handles → ((app : ℕ) → has_ended s app ≡ true) → handles ≡ []
 no_handles s [] owned over = refl
 no_handles s (h ∷ handles) owned over = absurd (true≢false (sym (over h.app) ∙ All-head (λ (x : Handle). has_ended s x.app ≡ false) h handles owned))
 
--- and where no handle is, no table is
+-- and if no handle is, no table is
 no_tables : (handles : List Handle) (tables : List Table) → handles ≡ [] → All (λ (t : Table). has_handle handles t.number ≡ true) tables → tables ≡ []
 no_tables handles [] none all = refl
 no_tables handles (t ∷ tables) none all =

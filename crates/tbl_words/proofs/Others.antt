@@ -212,7 +212,7 @@ module _ (limits : Limits) (s : State) (app other : ℕ) (rise : Rise s.handles)
 
 -- What an application's handle holds. --
 
--- what the live handle of this number holds, where it is the application's
+-- what the live handle of this number holds, if it is the application's
 abbrev pub hold_owned : List Handle → ℕ → ℕ → Option Hold
 hold_owned handles app n = cond {A = Option Hold} (owns handles app n) (hold_of handles n) None
 

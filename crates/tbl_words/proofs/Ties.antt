@@ -238,7 +238,7 @@ tied-with_new_table limits s app name size option rules tied =
           (omega arith);
     }
 
--- a table that stays is registered where its owner's handle stays
+-- a table that stays is registered if its owner's handle stays
 after_leave-owners : (left handles : List Handle) (t : Table) → (is_live left t.number ≡ true → is_live handles t.number ≡ true) →
     t.registered ≡ is_live handles t.number → (after_leave left t).registered ≡ is_live left (after_leave left t).number
 after_leave-owners left handles t whole owner =

@@ -41,7 +41,7 @@ call_text (ReleaseAddress handle) = []
 call_text (Status handle) = []
 call_text End = []
 
--- the call with these bytes in place of those that it brings; itself, where it brings none
+-- the call with these bytes in place of those that it brings; itself, if it brings none
 abbrev pub with_text : List ℕ → Call → Call
 with_text text (Register name size option rules) = Register text size option rules
 with_text text (Share name) = Share text

@@ -8,7 +8,7 @@ use Rattle.tbl_words.specs.declared.history.Call.TheVariants.{Unregister, GetAdd
 use Rattle.tbl_words.specs.Tables.{Table, Handle, Hold, State, handle_at, owns, table_of}
 use Rattle.tbl_words.specs.Machine.{cause, step}
 
--- what a handle holds; nothing where it isn't live
+-- what a handle holds; nothing if it isn't live
 abbrev pub hold_of : List Handle → ℕ → Option Hold
 hold_of handles number = option_and_then (λ h. h.hold) (handle_at handles number)
 

@@ -27,11 +27,11 @@ with_range value offset bytes = take offset value ++ bytes ++ drop (offset + len
 
 -- Refusals. Each call has its own, in the order in which they are tried. --
 
--- this refusal where the test is true, else the ones that follow
+-- this refusal if the test is true, else the ones that follow
 abbrev pub refused_if : Bool → TblStatus → Option TblStatus → Option TblStatus
 refused_if test status others = if test then Some status else others
 
--- a new table is refused where as many tables have a handle as there may be, as many handles are
+-- a new table is refused if as many tables have a handle as there may be, as many handles are
 -- live, or the pool can't give its blocks
 abbrev pub new_table_cause : Limits → State → ℕ → ℕ → Option TblStatus
 new_table_cause limits s size option =
@@ -39,7 +39,7 @@ new_table_cause limits s size option =
     (refused_if (nat_le limits.handles (length s.handles)) ErrHandlesFull
     (refused_if (not (fits (account_of limits s) size (blocks_for option))) ErrMemBlockSize None))
 
--- a name that a registered table has is refused where that table is another application's, or the
+-- a name that a registered table has is refused if that table is another application's, or the
 -- caller's own with another size; else it is a duplicate, and no refusal
 abbrev pub duplicate_cause : ℕ → ℕ → Table → Option TblStatus
 duplicate_cause app size t =
@@ -95,7 +95,7 @@ is_partial t offset bytes = not (offset == 0 && length bytes == t.size)
 
 -- What may bar a load: the table is dump only; the bytes go past its end; it was never loaded and
 -- they aren't all of it; a load is staged already; it is double buffered and a version other than
--- the present one is held, which lies where the load would; it is single buffered and all four
+-- the present one is held, which lies if the load would; it is single buffered and all four
 -- working buffers are taken.
 pub record Bars : Type 0 where
   pub dump_only : Bool
@@ -239,13 +239,13 @@ after_register limits s app name size option rules =
     option_map_or (λ t. (answers.Duplicate t.number, s)) (table_named s.tables name)
     (answers.Number (s.handles_made + 1), with_new_table limits s app name size option rules)
 
--- one handle more of the registered table of a name, to be told of its contents where it was ever
+-- one handle more of the registered table of a name, to be told of its contents if it was ever
 -- loaded
 abbrev pub after_share : State → ℕ → List ℕ → State
 after_share s app name =
     option_map_or (λ t. with_new_handle s app t.number t.loaded) (table_named s.tables name) s
 
--- a table once handles have left: where its owner's is among those it is unregistered, and nothing
+-- a table once handles have left: if its owner's is among those it is unregistered, and nothing
 -- is staged
 abbrev pub after_leave : List Handle → Table → Table
 after_leave left t =
@@ -328,7 +328,7 @@ after_address s handle =
     (λ t. record s { handles = with_handle (with_hold t.version t.value) handle s.handles })
     (table_of s handle) s
 
--- 0 where nothing is staged, 1 where something is, 2 where it was validated
+-- 0 if nothing is staged, 1 if something is, 2 if it was validated
 abbrev pub staged_number : Option Staged → ℕ
 staged_number None = 0
 staged_number (Some staged) = if staged.validated then 2 else 1

@@ -35,7 +35,7 @@ table_receipt handle version value =
       head = take HEAD_BYTES value;
     }
 
--- the receipt of what an application's handle holds, where the handle is live and holds something
+-- the receipt of what an application's handle holds, if the handle is live and holds something
 abbrev pub receipt_in : State → ℕ → ℕ → Option Receipt
 receipt_in s app handle =
     if owns s.handles app handle

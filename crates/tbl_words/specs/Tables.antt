@@ -153,11 +153,11 @@ buffers_taken tables = count_by (λ t. not (is_double t) && is_some t.staged) ta
 
 -- The memory pool of the tables. --
 
--- how many blocks a table with this option takes: two where it is double buffered, else one
+-- how many blocks a table with this option takes: two if it is double buffered, else one
 abbrev pub blocks_for : ℕ → ℕ
 blocks_for option = if option == 1 then 2 else 1
 
--- the block size that a table of this size takes: the smallest that is large enough; 0 where there
+-- the block size that a table of this size takes: the smallest that is large enough; 0 if there
 -- is none
 abbrev pub block_size : List ℕ → ℕ → ℕ
 block_size sizes size = option_map_or (slice_index sizes) (class_of size sizes) 0

@@ -15,7 +15,7 @@ HandlesHaveTables =
     handle_at (state_after limits apps history).handles number ≡ Some h →
     is_some (table_at (state_after limits apps history).tables h.table) ≡ true
 
--- a table is registered exactly where its owner's handle is live
+-- a table is registered if and only if its owner's handle is live
 abbrev pub OwnersRegister : Type 0
 OwnersRegister =
     (limits : Limits) (apps : ℕ) (history : List Entry) (number : ℕ) (t : Table) →

@@ -25,7 +25,7 @@ pub enum TblCall<'a> {
         /// The name looked for.
         name: &'a [u8],
     },
-    /// Gives a handle back; where it is the owner's, the table is no longer registered
+    /// Gives a handle back; if it is the owner's, the table is no longer registered
     /// (`CFE_TBL_Unregister`).
     Unregister {
         /// The handle's number.
@@ -84,7 +84,7 @@ pub enum TblCall<'a> {
 }
 
 impl<'a> TblCall<'a> {
-    /// The bytes that the call brings: its name, or what it loads; none where it has neither.
+    /// The bytes that the call brings: its name, or what it loads; none if it has neither.
     pub fn text(&self) -> &'a [u8]
         ensures { result.now ≡ call_text (call_of self.now) }
     {
@@ -95,7 +95,7 @@ impl<'a> TblCall<'a> {
         }
     }
 
-    /// The same call with these bytes in place of its own; itself, where it brings none. Inlined,
+    /// The same call with these bytes in place of its own; itself, if it brings none. Inlined,
     /// it makes the call where that goes.
     #[inline(always)]
     pub(crate) fn with_text<'b>(&self, text: &'b [u8]) -> TblCall<'b>
@@ -157,7 +157,7 @@ pub enum Told {
     NeverLoaded,
 }
 
-/// The address of a table's present version, as it is answered: the bytes are where the
+/// The address of a table's present version, as it is answered: the bytes are if the
 /// application keeps what it holds.
 #[derive(Clone, Copy, Debug, PartialEq, Eq)]
 pub struct Address {
@@ -184,7 +184,7 @@ pub struct TblState {
     pub version: u32,
     /// Whether it was ever updated.
     pub loaded: bool,
-    /// 0 where nothing is staged, 1 where something is, 2 where it was validated.
+    /// 0 if nothing is staged, 1 if something is, 2 if it was validated.
     pub staged: u32,
     /// How many handles, of whichever applications, hold a version of it.
     pub holds: u32,

@@ -59,4 +59,5 @@ pub use laws::{
 };
 pub use receipts::{HEAD_BYTES, TableReceipt};
 pub use statuses::TblStatus;
+pub use tbl_rules::{Rule, RuleList};
 pub use uses::TblUse;

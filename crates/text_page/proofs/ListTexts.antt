@@ -37,7 +37,7 @@ numbered-next text xs i x there =
     numbered-push text (take i xs) x (i + 1) (omega (arith, length-take-le i xs))
     ∙ ap (numbered text 1) (sym (take_next xs i x there))
 
--- the same, where the text is of something that the member has
+-- the same, if the text is of something that the member has
 pub numbered-map-next : {X Y : Type 0} (text : ℕ → Y → List ℕ) (v : X → Y) (xs : List X) (i : ℕ) (x : X) → slice_get xs i ≡ Some x →
     numbered text 1 (map v (take i xs)) ++ text (i + 1) (v x) ≡ numbered text 1 (map v (take (i + 1) xs))
 numbered-map-next text v xs i x there =

@@ -1,4 +1,4 @@
--- How a text reaches a sink: in pieces, over a page that is written out where it is full, and not
+-- How a text reaches a sink: in pieces, over a page that is written out if it is full, and not
 -- at all after a failure.
 use Rattle.std.specs.Prelude.{◌≡◌, ℕ, ◌≤◌, true, false, List, ◌++◌, Option}
 use Rattle.std.specs.Option.{option_map}

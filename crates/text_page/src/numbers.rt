@@ -1,4 +1,4 @@
-//! Numbers in decimal, whose digits go straight to the page where they have room.
+//! Numbers in decimal, whose digits go straight to the page if they have room.
 ghost use Rattle.std.specs.Prelude.{◌≡◌, ◌+◌, ◌/◌, ◌%◌, ◌<◌, ◌≤◌, [], ◌∷◌, ◌++◌, length, decimal, IfSome};
 ghost use Rattle.text_page.specs.Pieces.{Puts};
 ghost use Rattle.text_page.specs.declared.pages.TheConstants.{PAGE_BYTES};
@@ -9,7 +9,7 @@ use itoa::{Buffer, Integer};
 
 /// An unsigned number, which can be put on a page.
 pub trait Number: Integer {
-    /// The number, where it has 32 bits.
+    /// The number, if it has 32 bits.
     fn small(self) -> Option<u32>
         ensures { IfSome result (λ n. decimal n ≡ Self.text self) };
 }

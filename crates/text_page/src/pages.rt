@@ -81,7 +81,7 @@ pub fn put<K: Sink>(sink: &mut SinkGuard<'_, K>, page: &mut Page, text: &[u8])
     }
 }
 
-/// Writes what still waits; an error where this write failed or one before.
+/// Writes what still waits; an error if this write failed or one before.
 ///
 /// # Errors
 /// `WriteFault` if and only if this write failed or one before.
@@ -120,7 +120,7 @@ fn put_front<K: Sink>(sink: &mut SinkGuard<'_, K>, page: &mut Page, text: &[u8])
     page.append_front(text)
 }
 
-// Writes the page out where it is full.
+// Writes the page out if it is full.
 fn make_room<K: Sink>(sink: &mut SinkGuard<'_, K>, page: &mut Page)
     ensures puts { Puts sink.old sink.new page.old page.new [] }
     ensures room { length page.new < PAGE_BYTES }

@@ -9,7 +9,7 @@ use fsw_base::{Sink, SinkGuard, WriteAnswer, WriteFault};
 /// memory is taken. No write through this guard may have failed before.
 ///
 /// # Errors
-/// `WriteFault` only where a write failed, so that the sink's count of faults rose in this call, or
+/// `WriteFault` only if a write failed, so that the sink's count of faults rose in this call, or
 /// stands at its last value; the sink then has a front of the bytes.
 pub fn write_text<K: Sink>(sink: &mut SinkGuard<'_, K>, bytes: &[u8]) -> Result<(), WriteFault>
     requires { sink.old.failed ≡ false }

@@ -146,7 +146,7 @@ joined-one_at_tables script lock ds d main now j same keeps apps ended =
           (λ x before. begins-trans_at_tables x.tables_port.seen main.seen now.seen before longer.0) ds j.begun) longer.1;
     }
 
--- where ports of all were made, none is joined
+-- if ports of all were made, none is joined
 pub open-joined : (script : ScriptText) (lock : TableId) (main : MainView) → IsOpen script lock (length script.apps) main → IsJoined script lock [] main
 open-joined script lock main o = record {
   lock_is = o.lock_is;

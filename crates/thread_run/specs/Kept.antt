@@ -41,7 +41,7 @@ BeginsAs gives (Ok handle) (Here done) = ⊥
 BeginsAs gives (Err refused) (OnThread handle) = ⊥
 BeginsAs gives (Err refused) (Here done) = gives refused.value done
 
--- the application runs in a place where it is this one of this run: on a thread with its promise,
+-- the application runs in a place if it is this one of this run: on a thread with its promise,
 -- or it is through
 abbrev pub RunsIn : ScriptText → TableId → TableId → ℕ → Place Done Ends → Type 0
 RunsIn script bus tables app (OnThread handle) = EndsFor script bus tables app handle.promise

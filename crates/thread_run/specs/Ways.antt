@@ -16,7 +16,7 @@ use Rattle.app_run.specs.Rounds.{HasTold}
 use Rattle.app_run.specs.Runners.{Services, Equipped, going, standing_in}
 use Rattle.app_run.specs.Turns.{HasCome, Stands}
 
--- the application, where it goes on
+-- the application, if it goes on
 abbrev pub still_going : Equipped → Option Running
 still_going one = first_left (going one)
 

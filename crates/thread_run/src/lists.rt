@@ -10,7 +10,7 @@ use crate::starts::Begun;
 use crate::works::{Done, Ends, RunParts, Work};
 use fsw_base::AppNo;
 
-/// Takes the application of the greatest number; None where none is left.
+/// Takes the application of the greatest number; None if none is left.
 pub(crate) fn take_last<'s, 'r>(
     works: &mut Vec<Work<'s, 'r>>,
     _shared: RunParts<'_, 'r>,
@@ -54,7 +54,7 @@ pub(crate) fn note_begun<'e, 'r>(
     begun.push_reserved(one);
 }
 
-/// Takes the application of the greatest number that was begun; None where none is left.
+/// Takes the application of the greatest number that was begun; None if none is left.
 pub(crate) fn take_last_begun<'e, 'r>(
     begun: &mut Vec<Begun<Done, Ends<'e, 'r>>>,
     _shared: RunParts<'_, 'r>,
@@ -89,7 +89,7 @@ pub(crate) fn note_done(dones: &mut Vec<Done>, _shared: RunParts<'_, '_>, done: 
     dones.push_reserved(done);
 }
 
-/// Takes the application of the greatest number that is through; None where none is left.
+/// Takes the application of the greatest number that is through; None if none is left.
 pub(crate) fn take_last_done(dones: &mut Vec<Done>, _shared: RunParts<'_, '_>) -> Option<Done>
     requires dones { Numbered (IsDone (whole _shared) _shared.bus.now _shared.tables.now) 1
         dones.old.items }

@@ -41,7 +41,7 @@ impl Drop for OpenServices<'_> {
 /// beside them, if one does, with this budget and the number behind the script's last.
 ///
 /// # Errors
-/// Where memory runs out.
+/// If memory runs out.
 pub fn open_services<'r>(
     alloc: Global,
     script: &Script,
@@ -92,7 +92,7 @@ fn all_budgets(
 /// room for its receipts.
 ///
 /// # Errors
-/// Where memory runs out.
+/// If memory runs out.
 pub fn open_works<'e, 'r>(
     alloc: Global,
     shared: RunParts<'e, 'r>,

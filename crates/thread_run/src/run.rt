@@ -26,12 +26,12 @@ use std::thread::Threads;
 /// outside every lock. All memory is taken before the first call, but for what each thread takes
 /// when it is started: what runs the applications has no allocator.
 ///
-/// The call may wait, and returns once all applications have ended. Where an application's thread
+/// The call may wait, and returns once all applications have ended. If an application's thread
 /// can't be started the caller runs the application, once all others were started; one that waits
 /// there for a later one of these waits for ever.
 ///
 /// # Errors
-/// Where memory runs out; by the code, no application ran then.
+/// If memory runs out; by the code, no application ran then.
 pub fn run_threads<'r, R: Threads + Wait + Sync, G: Gate>(
     rt: &R,
     alloc: Global,

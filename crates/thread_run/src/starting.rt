@@ -27,7 +27,7 @@ impl<'e, 'r> Lists<'e, 'r> {
     /// Lists of so many applications, with none yet.
     ///
     /// # Errors
-    /// Where memory runs out.
+    /// If memory runs out.
     pub fn new(alloc: Global, apps: usize) -> Result<Lists<'e, 'r>, AllocError>
         ensures { IfOk result (λ lists. HaveRoomFor apps lists) }
     {

@@ -59,7 +59,7 @@ pub struct Begun<D: Drop, P: Promise<D>> {
 enum Place<D: Drop, P: Promise<D>> {
     // On a thread.
     OnThread(PromisedHandle<D, P>),
-    // In the caller's place, where it is through.
+    // In the caller's place, if it is through.
     Here(D),
 }
 

@@ -31,8 +31,8 @@ use tbl_service::{Tables, TblDone, TblPort};
 pub struct RunParts<'e, 'r> {
     /// The script.
     pub script: &'e Script,
-    /// What the one may add to each journal that runs beside them, if one does. It has the number
-    /// behind the script's last.
+    /// What a bridge beside the script's applications may add to each journal; None if there is no
+    /// bridge. It has the number behind the script's last.
     pub beside: Option<Budget>,
     /// The software bus.
     pub bus: &'e Bus<'r>,

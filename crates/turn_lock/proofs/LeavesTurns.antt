@@ -34,7 +34,7 @@ still_heard ToSleep rings heard old n is = old n is
 still_heard ToRing rings heard old n is = absurd (cc is)
 
 module _ {T F E : Type 0} (fixed : T → F) (history : T → List (ℕ × E)) (awaited : T → Bool) (opening : F) where
-  -- the value is where it was, whatever the bell's word is
+  -- the value is if it was, whatever the bell's word is
   bell_moves : (words : List ℕ) (n : ℕ) (log : List (ℕ × E)) (noted : Bool) (homes : List (home.Option (Option T))) (views : List (View F E))
       → IsHomeOrOut fixed history awaited opening words log noted homes views → IsHomeOrOut fixed history awaited opening (set words 1 n) log noted homes views
   bell_moves words n log noted homes views =

@@ -33,7 +33,7 @@ not_free : (b : Bool) (n : ℕ) → (b ≡ false → n ≢ 0) → either b 1 n �
 not_free true n h e = omega (arith, e)
 not_free false n h e = h refl e
 
--- what a step leaves in the turn's word that takes the turn where it is free
+-- what a step leaves in the turn's word that takes the turn if it is free
 pub seized : (n : ℕ) → either (n == 0) 1 n ≢ 0
 seized n = not_free (n == 0) n (λ other free. true≢false (sym (ap (λ k. k == 0) free) ∙ other))
 

@@ -12,7 +12,7 @@ use Rattle.turn_lock.specs.Steps.{MayLeave}
 use Rattle.turn_lock.proofs.ViewLists.{inside, each_set, each_push}
 
 module _ {F E : Type 0} where
-  -- who has yet to ring still has, where another seat stepped
+  -- who has yet to ring still has, if another seat stepped
   due_set : (views : List (View F E)) (id : ℕ) (v w : View F E) → get_elem? views id ≡ some v → is_owing v.stage ≢ true → IsRingDue views → IsRingDue (set views id w)
   due_set views id v w at idle o =
       let apart : o.0 ≢ id = λ same. idle (subst (λ (u : View F E). is_owing u.stage ≡ true) (some-injective o.1 v (sym o.2 ∙ (ap (get_elem? views) same ∙ at))) o.3) in

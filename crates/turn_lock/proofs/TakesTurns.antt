@@ -24,7 +24,7 @@ module _ {T F E : Type 0} (fixed : T → F) (history : T → List (ℕ × E)) (a
   pub stays : (s : State (Option T) (View F E)) → Kept fixed history awaited opening s → (word id : ℕ) (v : View F E) → get_elem? s.views id ≡ some v → Kept fixed history awaited opening (stepped s word (get_or s.words word 0) id [] v keeps)
   stays s h word id v at = subst₂ (λ (l : List ℕ) (r : List (View F E)). Kept fixed history awaited opening record { words = l; homes = s.homes; views = r }) (sym (set_same s.words word)) (sym (set_again s.views id v at)) h
 
-  -- where the turn is free the value is at home
+  -- if the turn is free the value is at home
   found_free : (words : List ℕ) (log : List (ℕ × E)) (noted : Bool) (homes : List (home.Option (Option T))) (views : List (View F E)) → IsHomeOrOut fixed history awaited opening words log noted homes views → get_or words 0 0 ≡ 0 → IsHome fixed history awaited opening log noted homes views
   found_free words log noted homes views value free =
       ⊎_elim
@@ -32,7 +32,7 @@ module _ {T F E : Type 0} (fixed : T → F) (history : T → List (ℕ × E)) (a
       (λ (x : (get_or words 0 0 ≢ 0) × IsOutWithOne views). absurd (x.0 free))
       value
 
-  -- and where it isn't the value is out
+  -- and if it isn't the value is out
   found_taken : (words : List ℕ) (log : List (ℕ × E)) (noted : Bool) (homes : List (home.Option (Option T))) (views : List (View F E)) → IsHomeOrOut fixed history awaited opening words log noted homes views → get_or words 0 0 ≢ 0 → IsOutWithOne views
   found_taken words log noted homes views value taken =
       ⊎_elim

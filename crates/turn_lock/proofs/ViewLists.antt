@@ -92,7 +92,7 @@ module _ {F E : Type 0} where
       (λ is. absurd (live_not_main w.stage live' is))
 
 module _ {F E : Type 0} where
-  -- the value is out with one seat still, where another one stepped
+  -- the value is out with one seat still, if another one stepped
   pub out_set : (views : List (View F E)) (id : ℕ) (v w : View F E) → get_elem? views id ≡ some v → is_served v.stage ≢ true → IsOutWithOne views → IsOutWithOne (set views id w)
   out_set views id v w at idle o =
       let apart : o.0 ≢ id = λ same. idle (subst (λ (u : View F E). is_served u.stage ≡ true) (some-injective o.1 v (sym o.2 ∙ (ap (get_elem? views) same ∙ at))) o.3) in

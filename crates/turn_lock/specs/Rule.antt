@@ -9,7 +9,7 @@ use Rattle.turn_lock.specs.declared.view.View.{View}
 use Rattle.turn_lock.specs.Views.{entries_of, is_live, is_served, is_away, is_owing, is_main, is_there}
 
 module _ {F E : Type 0} where
-  -- what the rule says of one seat, in a lock whose value has this fixed part, where this history
+  -- what the rule says of one seat, in a lock whose value has this fixed part, if this history
   -- was published last, the value noted sleepers then or didn't, and the bell rang so often
   pub record Fits (fixed : F) (log : List (ℕ × E)) (noted : Bool) (rings : ℕ) (v : View F E) :
       Type 0 where

@@ -5,7 +5,7 @@ ghost use Rattle.std.specs.Prelude.{ℕ, Bool, List};
 /// application that made it. It is also seen whether an application sleeps until there is news, and
 /// whether there is news. These meanings are of the proof alone, so there are no methods.
 ///
-/// `Fixed` and `Event` name no lifetime, even where the value borrows: what seats know of a history
+/// `Fixed` and `Event` name no lifetime, even if the value borrows: what seats know of a history
 /// outlives the borrow. No value of either needs to be made.
 pub trait Historied {
     /// What never changes while the lock stands, as a configuration.

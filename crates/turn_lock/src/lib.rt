@@ -55,8 +55,9 @@
 //!
 //! # Implementation
 //!
-//! Two words and a slot. The first word is the turn; the seat that finds it free has the turn, and
-//! the slot with it. It looks a hundred times before it sleeps at the word; all looks but the first
+//! Two words and a slot. The first word is the turn: free, taken, or taken and awaited, as in the
+//! mutex of Drepper, "Futexes Are Tricky", 2011. The seat that finds it free has the turn, and the
+//! slot with it. It looks a hundred times before it sleeps at the word; all looks but the first
 //! and the last only read while a turn is out. The second word is the bell, at which seats sleep
 //! that wait for news.
 //!

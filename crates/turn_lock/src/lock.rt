@@ -25,8 +25,8 @@ use std::sync::Wait;
 /// The most seats that can be split off one lock.
 pub const MOST_SEATS: u32 = 16;
 
-/// A value that one seat at a time has, in no promised order. It can be shared by threads where the
-/// value may move between them, and lives no longer than what the value borrows. Where the value
+/// A value that one seat at a time has, in no promised order. It can be shared by threads if the
+/// value may move between them, and lives no longer than what the value borrows. If the value
 /// can be dropped the lock can be let go with it, at any time, and nothing is learnt then of the
 /// history; closing gives the value and its history.
 ///
@@ -57,7 +57,7 @@ impl<T: Historied> TurnLock<T> {
     /// memory.
     ///
     /// # Errors
-    /// `AllocError` where there is no memory; the value is dropped then.
+    /// `AllocError` if there is no memory; the value is dropped then.
     pub fn new(
         alloc: Global,
         value: T,

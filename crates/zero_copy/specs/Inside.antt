@@ -16,7 +16,7 @@ rings next anchor [] = []
 rings next anchor (count ∷ counts) =
     chain next (slice_index next anchor) count ∷ rings next (anchor + 1) counts
 
--- once where the owner is the application of this place, else never
+-- once if the owner is the application of this place, else never
 abbrev pub owner_mark : List ℕ → ℕ → ℕ → ℕ
 owner_mark owners place desc = if slice_index owners desc == (place + 1) then 1 else 0
 

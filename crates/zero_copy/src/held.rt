@@ -138,7 +138,7 @@ impl HeldLists {
         self.owners[desc as usize] = 0;
     }
 
-    /// Takes the first descriptor out of an application's list; None exactly where it holds none.
+    /// Takes the first descriptor out of an application's list; None if and only if it holds none.
     /// At most 8 steps.
     pub fn take_first<L: Ledger>(&mut self, app: AppNo, steps: &mut Steps<L>) -> Option<u32>
         requires { app ≤ length self.old.lists }

@@ -6,7 +6,7 @@ use Rattle.bus_messages.specs.Words.{next_of}
 use Rattle.bus_messages.proofs.NewBlocks.{next_in-rows}
 use Rattle.bus_messages.proofs.sending.next_count.Goals as goal
 
--- a route stands where it stood once it has given a count more
+-- a route stands if it stood once it has given a count more
 stays : (routes : List RouteRow) (id place : ℕ) → way_from place (counted_on routes id) id ≡ way_from place routes id
 stays [] id place = refl
 stays (route ∷ routes) id place = by_test (eqb route.id id) refl (stays routes id (place + 1))

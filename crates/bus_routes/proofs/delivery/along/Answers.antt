@@ -54,7 +54,7 @@ loop-preserved g c =
       cost = omega (arith, n.ensures.cost, l.invariant.cost);
     }
 
--- where a destination is missing there is none left
+-- if a destination is missing there is none left
 pub returns-in_default-clause-rows : goal.returns-in_default-clause-rows
 returns-in_default-clause-rows g c =
     let a = c.args in

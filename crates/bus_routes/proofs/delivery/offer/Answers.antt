@@ -23,7 +23,7 @@ use Rattle.bus_routes.proofs.delivery.offer.Goals as goal
 abbrev behind : Missed → List Miss → List ItemRow → Missed
 behind misses more drops = record misses { items = misses.items ++ more; dropped = misses.dropped ++ drops }
 
--- where nothing more was dropped
+-- if nothing more was dropped
 drops_none : (misses : Missed) (more : List Miss) (drops : List ItemRow) → drops ≡ [] → record misses { items = misses.items ++ more } ≡ behind misses more drops
 drops_none misses more drops none =
     sym (ap (behind misses more) none ∙ ap (λ l. let m : Missed = record misses { items = misses.items ++ more; dropped = l } in m) (append-nil misses.dropped))
@@ -50,7 +50,7 @@ offer-offered-requires c =
     let it = some_there (live_at c.args.subs.now c.args.sub) c.requires.live in
     record { live = placed_is c.args.pipes.now.places c.args.subs.now c.args.sub it.0 c.at-row.result c.requires.placed c.at-row.ensures it.1 }
 
--- Where the pipe ignores the sender. --
+-- If the pipe ignores the sender. --
 
 pub returns-in-Skip-clause-rows : goal.returns-in-Skip-clause-rows
 returns-in-Skip-clause-rows c = λ x live.
@@ -94,7 +94,7 @@ returns-in-Skip-clause-queued c =
     let after = left c.args.pipes.now c.offer-offered.new.self c.args.message.now.sender c.eq-is_over.result (leb x.limit x.waiting) item c.at-row.result.pipe x.pipe number over c.offer-offered.ensures.after in
     subst (λ rows. AreQueued rows c.args.subs.now) (sym (after ∙ stays c.args.pipes.now.live x found.0 found.1 c.args.message.now item (ap is_queued told))) c.requires.queued
 
--- Where the subscription is at its limit. --
+-- If the subscription is at its limit. --
 
 pub returns-in-OverLimit-clause-rows : goal.returns-in-OverLimit-clause-rows
 returns-in-OverLimit-clause-rows c = λ x live.
@@ -140,7 +140,7 @@ returns-in-OverLimit-clause-queued c =
     let after = left c.args.pipes.now c.offer-offered.new.self c.args.message.now.sender c.eq-is_over.result (leb x.limit x.waiting) item c.at-row.result.pipe x.pipe number over c.offer-offered.ensures.after in
     subst (λ rows. AreQueued rows c.args.subs.now) (sym (after ∙ stays c.args.pipes.now.live x found.0 found.1 c.args.message.now item (ap is_queued told))) c.requires.queued
 
--- Where the pipe is full. --
+-- If the pipe is full. --
 
 pub returns-in-Full-clause-rows : goal.returns-in-Full-clause-rows
 returns-in-Full-clause-rows c = λ x live.
@@ -186,7 +186,7 @@ returns-in-Full-clause-queued c =
     let after = left c.args.pipes.now c.offer-offered.new.self c.args.message.now.sender c.eq-is_over.result (leb x.limit x.waiting) item c.at-row.result.pipe x.pipe number over c.offer-offered.ensures.after in
     subst (λ rows. AreQueued rows c.args.subs.now) (sym (after ∙ stays c.args.pipes.now.live x found.0 found.1 c.args.message.now item (ap is_queued told))) c.requires.queued
 
--- Where the pipe takes it. --
+-- If the pipe takes it. --
 
 pub returns-in-In-clause-rows : goal.returns-in-In-clause-rows
 returns-in-In-clause-rows c = λ x live.
@@ -235,7 +235,7 @@ returns-in-In-clause-queued c =
     (subst (λ l. AreQueued l (with_change c.args.subs.now c.args.sub one_more)) (sym (after ∙ goes_on c.args.pipes.now.live x found.0 found.1 c.args.message.now item told))
     (queued_more c.args.pipes.now.live c.args.subs.now c.args.sub x found.0 item c.recall_order-2.ensures c.requires.queued live found.1 refl))
 
--- Where the pipe drops its oldest message for it. --
+-- If the pipe drops its oldest message for it. --
 
 pub count_down-requires : goal.count_down-requires
 count_down-requires c =

@@ -1,4 +1,4 @@
--- `buffer_mut` lends the open bytes of one block of a bag, where it is there. The borrow checker shows no write-back clause for an `Option` of a slice, so this proof walks the code by hand: the bag is lent again to look the block up, and then as a whole.
+-- `buffer_mut` lends the open bytes of one block of a bag, if it is there. The borrow checker shows no write-back clause for an `Option` of a slice, so this proof walks the code by hand: the bag is lent again to look the block up, and then as a whole.
 use Rattle.std.proofs.Common.{◌≡◌, ℕ, ◌*◌, ◌^◌, List, [], ◌∷◌, length, refl, sym, ap, ◌∙◌, lit<, w64, Bool, true, false, not, Some, None}
 use Rattle.std.proofs.raw_atomic.Walks.{proved, leaves}
 use lib.Dec.{T}

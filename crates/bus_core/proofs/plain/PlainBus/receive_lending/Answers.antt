@@ -24,7 +24,7 @@ use Rattle.bus_core.specs.declared.plain.PlainBus.TheInside.{Inside}
 use Rattle.bus_core.proofs.Waits.{oldest_given}
 use Rattle.bus_core.proofs.plain.PlainBus.receive_lending.Goals as goal
 
--- Where the application has no such pipe. --
+-- If the application has no such pipe. --
 
 -- the bus is as before
 back : (a : Inside) (now : Plain) (store : Store) → plain_of a ≡ now → store ≡ a.store → plain_of (record a { store = store }) ≡ now
@@ -75,7 +75,7 @@ returns-in_default-clause-other_bags g c = λ other bag apart.
     subst (λ (p : Plain). KeepsBags p c.refuse.new.self) (back c.self.inside c.args.self.now c.receive_if_owned.new.self c.self.view_is (c.receive_if_owned.ensures.same c.in_default.is))
     c.refuse.ensures.bags other bag
 
--- Where it has. --
+-- If it has. --
 
 pub invariant_of-self-2 : goal.invariant_of-self-2
 invariant_of-self-2 g c =

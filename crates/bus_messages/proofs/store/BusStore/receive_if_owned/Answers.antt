@@ -1,4 +1,4 @@
--- As `receive`, where the application owns the pipe.
+-- As `receive`, if the application owns the pipe.
 use Rattle.std.proofs.Common.{◌≤◌, length, is_some, ap, refl, subst, sym, ◌∙◌}
 use Rattle.lend_block.specs.Loan.{LentBytes}
 use Rattle.buf_desc.specs.Held.{Holding}

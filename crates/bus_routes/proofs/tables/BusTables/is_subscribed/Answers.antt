@@ -1,4 +1,4 @@
--- A subscription is found exactly where one ties the id to the pipe.
+-- A subscription is found if and only if one ties the id to the pipe.
 use Rattle.std.proofs.Common.{length, is_some, ap, ◌∙◌, arith}
 use Rattle.bus_words.specs.Bus.{is_subscribed, route}
 use Rattle.bus_routes.proofs.Ties.{subscribed_seen, route_seen}

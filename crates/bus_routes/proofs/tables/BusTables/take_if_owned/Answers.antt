@@ -1,4 +1,4 @@
--- As `take`, where the application owns the pipe.
+-- As `take`, if the application owns the pipe.
 use Rattle.std.proofs.Common.{is_some, ap, sym, ◌∙◌}
 use Rattle.std.specs.Option.{option_map}
 use Rattle.bus_words.specs.Pipes.{after_receive, last_on, oldest_on, owns}

@@ -1,4 +1,4 @@
--- `buffer` lends the bytes of one buffer of a port's bag, where it is there. The borrow checker shows no write-back clause for an `Option` of a slice, so this proof walks the code by hand, as `buffer_mut` of a bag is proved: the port is lent again to look the buffer up, and then as a whole.
+-- `buffer` lends the bytes of one buffer of a port's bag, if it is there. The borrow checker shows no write-back clause for an `Option` of a slice, so this proof walks the code by hand, as `buffer_mut` of a bag is proved: the port is lent again to look the buffer up, and then as a whole.
 use Rattle.std.proofs.Common.{◌≡◌, ℕ, ◌*◌, ◌^◌, List, [], ◌∷◌, length, refl, sym, ap, ◌∙◌, lit<, w32, Bool, true, false, not, Some, None}
 use Rattle.std.proofs.raw_atomic.Walks.{proved, leaves}
 use lib.Dec.{T}

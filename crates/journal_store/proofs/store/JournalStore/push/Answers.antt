@@ -7,7 +7,7 @@ use Rattle.journal_store.specs.Inside.{stored_in}
 use Rattle.journal_store.proofs.Pushes.{IsKept-push, IsKept-wider, stored_in-push, added}
 use Rattle.journal_store.proofs.store.JournalStore.push.Goals as goal
 
--- where there was room, the text was added
+-- if there was room, the text was added
 taken : (old new text : List ℕ) (ok : Bool) → ok ≡ true → new ≡ (if ok then old ++ text else old) → new ≡ old ++ text
 taken old new text ok is items = subst (λ (b : Bool). new ≡ (if b then old ++ text else old)) is items
 

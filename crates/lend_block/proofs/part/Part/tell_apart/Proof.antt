@@ -1,4 +1,4 @@
--- `tell_apart` finds more of a token than there is, where both parts are of one loan.
+-- `tell_apart` finds more of a token than there is, if both parts are of one loan.
 use Rattle.left_right.specs.Parted.{tokens}
 use Rattle.lend_block.proofs.Steps.{ℕ, ◌^◌, ◌<◌, ◌≤◌, [], ◌∷◌, refl, proved, leaves, also, Fml, ftrue, fsep, flft, SProp, emp, fact, fact_i, tables, RattleType, owns, mut_vals, mut_Tells, types_at, plain, named_lft, nothing, heard, opens, closes, Stays, stay_ref, walk_of, Goes-ref, named, Val, vunit, vptr, List, alloc_all, pass_all, free_all, look_at, sets, ‵, raw, ◌⊛◌, later, ◌$◌, ◌∵◌, !, qed, by, move, keep, split, split3, join, fsplit, fsplit3, fjoin, fjoin3, use0, use2, await, feq_i, unit_lit, of_opd, returns, enter}
 use Rattle.lend_block.proofs.Tokens.{two_loans}

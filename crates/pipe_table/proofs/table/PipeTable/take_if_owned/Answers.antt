@@ -1,4 +1,4 @@
--- As `take`, where the pipe in the number's place has the owner.
+-- As `take`, if the pipe in the number's place has the owner.
 use Rattle.std.proofs.Common.{◌≡◌, ℕ, Bool, false, eqb, Option, Some, refl, ap, sym, subst, ◌∙◌, is_some, get_or, arith}
 use Rattle.std.specs.Option.{IsSome, option_map_or, option_and_then}
 use Rattle.std.proofs.lemmas.List.{get_or_default, length-set}

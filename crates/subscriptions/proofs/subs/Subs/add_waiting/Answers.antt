@@ -11,7 +11,7 @@ use Rattle.subscriptions.proofs.Slots.{IsHeld, slot_of_live}
 use Rattle.subscriptions.proofs.WaitingCounts.{IsRecounted, recounts, still_kept}
 use Rattle.subscriptions.proofs.subs.Subs.add_waiting.Goals as goal
 
--- where it is
+-- if it is
 held : (s : Inside) (now : Subscribed) (sub : SubNo) → the_view s ≡ now → the_invariant s → IsSome (live_at now sub) → IsHeld s.slots.items s.made sub
 held s now sub is kept live =
     slot_of_live s.slots.items s.free.items s.made sub kept.0 (subst (λ v. IsSome (live_at v sub)) (sym is) live)

@@ -1,4 +1,4 @@
--- The count in the slot changes where the subscription is live, and nothing where it isn't.
+-- The count in the slot changes if the subscription is live, and nothing if it isn't.
 use Rattle.std.proofs.Common.{◌≡◌, ◌-◌, set, None, ap, sym, subst, ◌∙◌, vec_capacity, arith}
 use Rattle.subscriptions.specs.contracts.subs.Subs.{the_view, the_invariant}
 use Rattle.subscriptions.specs.declared.subs.Subs.TheInside.{Inside}
