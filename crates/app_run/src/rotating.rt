@@ -28,6 +28,7 @@ use tbl_load::{HeldTables, TblCore, bags_stay as table_bags_stay};
 
 /// What a run leaves: both services after all applications have ended, and the receipts of each, in
 /// order of number.
+#[derive(Drop)]
 pub struct Finished<'r> {
     /// The bus, with every call and answer in its journal.
     pub bus: BusCore<'r>,
@@ -35,16 +36,6 @@ pub struct Finished<'r> {
     pub tables: TblCore<'r>,
     /// The receipts of application 1, 2, 3 and so on.
     pub receipts: Vec<ReceiptList>,
-}
-
-impl Drop for Finished<'_> {
-    fn drop(self) {
-        let Finished {
-            bus: _bus,
-            tables: _tables,
-            receipts: _receipts,
-        } = self;
-    }
 }
 
 /// Runs a script: each application that has not ended takes a turn, in order of number, again and

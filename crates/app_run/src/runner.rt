@@ -159,7 +159,18 @@ impl<'s> Runner<'s> {
         requires { self.ended ≡ true }
         ensures { result.receipts ≡ self.entry.receipts }
     {
-        self.receipts
+        let Runner {
+            script: _script,
+            app: _app,
+            next: _next,
+            registers: _registers,
+            handles: _handles,
+            waits_on: _waits_on,
+            ended: _ended,
+            made: _made,
+            receipts,
+        } = self;
+        receipts
     }
 
     // One turn, by services that know the application as it is.

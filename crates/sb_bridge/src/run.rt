@@ -29,20 +29,12 @@ use thread_run::{OpenServices, RunParts, open_services};
 
 /// What a run of two buses and a bridge leaves: on each side what a run of its script leaves, with
 /// the bridge's entries in its histories. The receipts are those of the script's applications.
+#[derive(Drop)]
 pub struct Bridged<'r> {
     /// Side 1, from which messages went.
     pub one: Finished<'r>,
     /// Side 2, to which they went.
     pub two: Finished<'r>,
-}
-
-impl Drop for Bridged<'_> {
-    fn drop(self) {
-        let Bridged {
-            one: _one,
-            two: _two,
-        } = self;
-    }
 }
 
 /// Runs the scripts of both sides, each application on a thread of its own, and the bridge between

@@ -15,6 +15,7 @@ use std::alloc::{AllocError, Global};
 use tbl_service::{Tables, TblMain};
 
 /// Both services before their first call, with their main parts.
+#[derive(Drop)]
 pub struct OpenServices<'r> {
     /// The software bus.
     pub bus: Bus<'r>,
@@ -24,17 +25,6 @@ pub struct OpenServices<'r> {
     pub tables: Tables<'r>,
     /// Their main part.
     pub tables_main: TblMain,
-}
-
-impl Drop for OpenServices<'_> {
-    fn drop(self) {
-        let OpenServices {
-            bus: _bus,
-            bus_main: _bus_main,
-            tables: _tables,
-            tables_main: _tables_main,
-        } = self;
-    }
 }
 
 /// Takes the memory of both services, for the script's applications and for the one that runs

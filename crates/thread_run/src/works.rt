@@ -53,6 +53,7 @@ impl RunParts<'_, '_> {
 }
 
 /// What an application takes along to its thread.
+#[derive(Drop)]
 pub struct Work<'s, 'r> {
     /// How far it has come.
     pub runner: Runner<'s>,
@@ -62,18 +63,9 @@ pub struct Work<'s, 'r> {
     pub tables_port: TblPort<'r>,
 }
 
-impl Drop for Work<'_, '_> {
-    fn drop(self) {
-        let Work {
-            runner: _runner,
-            port: _port,
-            tables_port: _tables_port,
-        } = self;
-    }
-}
-
 /// What is left of an application that is through. It names no lifetime, so a thread may promise
 /// it.
+#[derive(Drop)]
 pub struct Done {
     /// Its port of the bus, finished.
     pub port: BusDone,
@@ -81,16 +73,6 @@ pub struct Done {
     pub tables_port: TblDone,
     /// Its receipts.
     pub receipts: ReceiptList,
-}
-
-impl Drop for Done {
-    fn drop(self) {
-        let Done {
-            port: _port,
-            tables_port: _tables_port,
-            receipts: _receipts,
-        } = self;
-    }
 }
 
 /// A thread's promise: the application ends, and its entries and receipts are those of its lines.
