@@ -1,20 +1,19 @@
 #!/usr/bin/env python3
-"""Makes the second part of docs/DEFINITIONS.md from the comments in crates/*/specs, and checks the whole page.
+"""Checks docs/DEFINITIONS.md, and prints every definition that a public clause cites.
 
-The page has two parts. The first, above the heading `## Every definition`, is written by hand: the definitions that carry the
-model. An entry there is
+The page explains by hand the definitions that carry the model. An entry there is
 
     - `name`, `name` (`crate/specs/File.antt`): words
 
-The second part has every other definition that a public clause cites, by crate and file, each with the first sentence of the
-comment above it, or at the head of its file, if it has none of its own.
+`--every` prints all others that a public clause cites, by crate and file, each with the first sentence of the comment above it, or
+at the head of its file, if it has none of its own; `--every CRATE` those of one crate.
 
 A public clause is a `requires` or `ensures` of a `pub fn`, or of a method of a public trait or of a trait's impl, and the
 `Value` of an `impl Model`, of a library or of `host_run`; the small programs have no callers. A name in it is resolved by the file's `ghost use` lines.
 
-Without words the check fails if the second part isn't what the specs give, if a cited definition has no comment, or if the first
-part names what no file defines. `--mend` writes the second part anew. In the first part it follows a definition that moved to
-another file, and takes out a name that is defined nowhere; it prints what it took out, since that has to be read.
+Without words the check fails if a cited definition has no comment, or if the page names what no file defines. `--mend` follows a
+definition that moved to another file, and takes out a name that is defined nowhere; it prints what it took out, since that has to be
+read.
 """
 import re
 import sys
@@ -26,8 +25,6 @@ TOP = Path(__file__).resolve().parent.parent
 PAGE = TOP / 'docs' / 'DEFINITIONS.md'
 WORD = r"[^\W\d][\w'-]*|◌\S*◌|◌\S+"
 HAND = re.compile(r'- ((?:`[^`]+`(?:, )?)+) \(`(\w+)/specs/([\w/]+)\.antt`\): (.*)$')
-HEADING = '## Every definition'
-MADE = '`.ci/definitions.py --mend` makes this part from the comments in `crates/*/specs`. Change a comment there, and make it anew.'
 IMPORT = re.compile(r'ghost\s+use\s+Rattle\.([\w.]+?)\.\{([^}]*)\}\s*;')
 FILE_ALIAS = re.compile(r'ghost\s+use\s+Rattle\.([\w.]+)\s+as\s+(\w+)\s*;')
 
@@ -215,7 +212,7 @@ def places(word):
 
 
 def by_hand(lines):
-    """The entries of the page's first part: place in the page, names, crate, file, words."""
+    """The entries of the page: place in the page, names, crate, file, words."""
     for at, line in enumerate(lines):
         entry = HAND.match(line)
         if entry:
@@ -223,7 +220,7 @@ def by_hand(lines):
 
 
 def followed(lines):
-    """The first part, with definitions that moved where they are now, and without those that are gone; and what was taken out."""
+    """The page, with definitions that moved where they are now, and without those that are gone; and what was taken out."""
     out, gone = list(lines), []
     for at, words, crate, name, told in by_hand(lines):
         lost = [word for word in words if word not in (defined(crate, name) or ())]
@@ -244,18 +241,17 @@ def layers():
     return [crate for crate in named if crate in crates()] + [crate for crate in crates() if crate not in named]
 
 
-def second_part(needed, explained):
-    """The second part's lines, and a fault for each definition without a comment."""
+def every(needed, explained):
+    """All other definitions, as lines by crate, and a fault for each without a comment."""
     files = defaultdict(lambda: defaultdict(list))
     for crate, name, word in needed:
         if (crate, name, word) not in explained:
             files[crate][name].append(word)
-    out, faults = [HEADING, '', MADE], []
+    out, faults = {}, []
     for crate in layers():
-        if files[crate]:
-            out += ['', f'### `{crate}`']
+        part = out[crate] = []
         for name in sorted(files[crate]):
-            out += ['', f'`specs/{name}.antt`', '']
+            part += ['', f'`specs/{name}.antt`', '']
             lines = (TOP / 'crates' / crate / 'specs' / f'{name}.antt').read_text().splitlines()
             named = defaultdict(list)
             for word in sorted(files[crate][name], key=lambda word: line_of(lines, word) or 0):
@@ -264,13 +260,12 @@ def second_part(needed, explained):
                     faults.append(f'crates/{crate}/specs/{name}.antt: {word}: no comment says what it is')
                 named[comment].append(f'`{word}`')
             entries = [f'{", ".join(words)}: {comment}' for comment, words in named.items()]
-            out += [entry + '\\' for entry in entries[:-1]] + entries[-1:]
+            part += entries
     return out, faults
 
 
 def main():
     lines = PAGE.read_text().splitlines()
-    first = lines[:lines.index(HEADING)] if HEADING in lines else lines + ['']
     needed = {}
     for crate in crates():
         if (TOP / 'crates' / crate / 'src' / 'lib.rt').is_file() or crate == 'host_run':
@@ -279,19 +274,22 @@ def main():
     faults = [f'{where}: {function}, {clause}: cites `{word}`, which crates/{crate}/specs/{name}.antt does not define'
               for (crate, name, word), (where, function, clause) in sorted(needed.items()) if word not in (defined(crate, name) or ())]
     needed = {at for at in needed if at[2] in (defined(at[0], at[1]) or ())}
-    mended, gone = followed(first)
+    mended, gone = followed(lines)
     explained = {(crate, name, word) for _, words, crate, name, _ in by_hand(mended) for word in words}
-    second, unexplained = second_part(needed, explained)
+    others, unexplained = every(needed, explained)
     faults += unexplained
-    whole = mended + second
+    if sys.argv[1:2] == ['--every']:
+        for crate in sys.argv[2:] or [crate for crate in others if others[crate]]:
+            print('\n'.join([f'# {crate}'] + others.get(crate, []) + ['']))
+        return 0
     if sys.argv[1:] == ['--mend']:
-        PAGE.write_text('\n'.join(whole) + '\n')
+        PAGE.write_text('\n'.join(mended) + '\n')
         for entry in gone:
             print(f'taken out: {entry}')
     else:
-        for at, (is_line, wanted) in enumerate(zip_longest(lines, whole), 1):
+        for at, (is_line, wanted) in enumerate(zip_longest(lines, mended), 1):
             if is_line != wanted:
-                faults.append(f'docs/DEFINITIONS.md:{at}: is not what the specs give; .ci/definitions.py --mend writes it anew')
+                faults.append(f'docs/DEFINITIONS.md:{at}: names a definition that stands elsewhere or nowhere; .ci/definitions.py --mend mends it')
                 break
     for fault in faults:
         print(fault)
