@@ -6,8 +6,8 @@
 It prints the rows of the tables of docs/PERFORMANCE.md: of the core's words (bus), of a port's by one
 application and by each of two and of four (ports), and what a send takes that is queued, and one that meets a full
 pipe (full); all of them where no word is given. The counts are callgrind's, those of a longer run less
-those of a shorter one, divided by the rounds between. The programs are the built ones, and BUS_COST's
-and PORT_COST's where these are given; plain_bus is compiled here.
+those of a shorter one, divided by the rounds between. The programs are those that measured.py
+built in /tmp/measured, and BUS_COST's and PORT_COST's where these are given; plain_bus is compiled here.
 """
 import os
 import re
@@ -17,7 +17,7 @@ import tempfile
 from pathlib import Path
 
 HERE = Path(__file__).resolve().parent
-CRATES = HERE.parent.parent / "crates"
+CRATES = Path("/tmp/measured/crates")
 BUS_COST = os.environ.get("BUS_COST", CRATES / "cost_bus/out/cost_bus")
 PORT_COST = os.environ.get("PORT_COST", CRATES / "cost_port/out/cost_port")
 

@@ -4,7 +4,7 @@
     python3 docs/bench/turns.py [--times N] [NAME=PROGRAM ..]
 
 It prints the microseconds in which each application makes a round, by the clock, and what one round by each takes of all
-processors: of plain_bus, which is compiled here, of the built cost_port, and of further programs that take the same words, such as cost_port over another lock. They run in turn. Of N
+processors: of plain_bus, which is compiled here, of cost_port as measured.py built it in /tmp/measured, and of further programs that take the same words, such as cost_port over another lock. They run in turn. Of N
 runs each (9, where it isn't given) the least counts, that of a longer run less that of a shorter one; by the clock the middle one
 too. A program that doesn't know so many applications has no figure there.
 """
@@ -18,7 +18,7 @@ from pathlib import Path
 from statistics import median
 
 HERE = Path(__file__).resolve().parent
-COST_PORT = HERE.parent.parent / "crates/cost_port/out/cost_port"
+COST_PORT = Path("/tmp/measured/crates/cost_port/out/cost_port")
 
 # The pipes of each word, and the rounds of its shorter and of its longer run.
 WORDS = {"port1": (1, 10000, 210000), "port16": (16, 1000, 21000)}
