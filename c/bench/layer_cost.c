@@ -133,7 +133,8 @@ int main(int argc, char **argv)
                  {"big", 32768, 1, carry_messages}, {"fanbig", 32768, 16, carry_messages},
                  {"zc", 64, 1, carry_buffers},      {"table", 0, 0, load_and_read},
                  {"port1", 64, 1, carry_messages},  {"port16", 64, 16, carry_messages}};
-    static const struct fsw_app apps[2] = {{"FIRST", do_share}, {"SECOND", do_share}};
+    static const struct fsw_app apps[2] = {{.name = "FIRST", .entry = do_share},
+                                           {.name = "SECOND", .entry = do_share}};
     const char *word = argc > 1 ? argv[1] : "";
     rounds = argc > 2 ? strtoul(argv[2], NULL, 10) : 0;
     uint32 count = argc > 3 && strcmp(argv[3], "2") == 0 ? 2 : 1;

@@ -61,7 +61,9 @@ static inline void CFE_ES_PerfLogAdd(uint32 Marker, uint32 EntryExit)
     (void)EntryExit;
 }
 
-/* Child tasks belong to the application that made them. Stack, priority and flags have no effect.
+/*
+ * Child tasks belong to the application that made them. StackSize is for the task's own frames, 0
+ * the system's usual; Priority is as struct fsw_app's. StackPtr and Flags have no effect.
  */
 typedef void (*CFE_ES_TaskEntryFuncPtr_t)(void);
 typedef CFE_ES_TaskEntryFuncPtr_t CFE_ES_ChildTaskMainFuncPtr_t;

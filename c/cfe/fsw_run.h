@@ -9,10 +9,16 @@
 extern "C" {
 #endif
 
-/* An application: its name, 1 to 19 bytes, and its main function. */
+/*
+ * An application. If one of a run has a priority other than 0, all tasks of the run have theirs,
+ * under SCHED_FIFO; otherwise the system schedules them as its other threads. If the system doesn't
+ * allow SCHED_FIFO, a line on the standard error output says so, once, and they run without.
+ */
 struct fsw_app {
-    const char *name;
-    void (*entry)(void);
+    const char *name;    /* 1 to 19 bytes; its thread has the first 15 */
+    void (*entry)(void); /* its main function */
+    uint8_t priority;    /* cFE's: 0 is the highest, 255 the lowest */
+    uint32_t stack_size; /* bytes of stack for its own frames; 0: the system's usual stack */
 };
 
 /*

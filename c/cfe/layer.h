@@ -16,6 +16,7 @@ enum {
     MOST_APPS = 16,
     MOST_TASKS = 64,
     MOST_PIPES = 256,
+    PIPE_PLACES = MOST_PIPES + MOST_TASKS, /* a deleted pipe may have sleepers for a moment */
     MOST_POOLS = 8,
     MOST_TABLES = 256,
     MOST_HANDLES = 1024,
@@ -26,10 +27,12 @@ enum {
 
 struct app {
     const char *name;
-    uint32_t number; /* the core's */
-    uint32_t tasks;  /* threads of it that were not joined yet */
-    bool is_up;      /* it has reached its loop */
-    bool is_ending;  /* so are all its tasks */
+    uint32_t number;     /* the core's */
+    uint32_t stack_size; /* of its main task, as struct fsw_app's */
+    uint8_t priority;
+    uint32_t tasks; /* threads of it that were not joined yet */
+    bool is_up;     /* it has reached its loop */
+    bool is_ending; /* so are all its tasks */
     bool has_ended;
     bool has_failed; /* it ended by an error */
     uint32_t filters;
@@ -43,6 +46,7 @@ struct task {
     enum task_state state;
     bool is_main;
     bool is_ending; /* it ends at its next call: it was asked to, or its application was */
+    char name[CFE_MISSION_MAX_API_LEN];
     struct app *app;
     void (*entry)(void);
 };
@@ -84,8 +88,10 @@ struct handle {
 };
 
 struct layer {
-    pthread_mutex_t mutex;
+    pthread_mutex_t mutex;  /* it inherits priority; fsw_prepare makes it */
     pthread_cond_t changed; /* a task or an application changed its state, or fsw_stop was called */
+    bool has_priorities;    /* tasks run by their priorities */
+    bool has_noticed;       /* that the system doesn't allow that */
     bool is_running;
     bool is_stopping;
     struct timespec began;
@@ -98,9 +104,9 @@ struct layer {
     uint32_t apps;
     struct app app[MOST_APPS];
     struct task task[MOST_TASKS];
-    struct pipe pipe[MOST_PIPES + MOST_TASKS]; /* a deleted one may have sleepers for a moment */
-    struct pipe *asleep;                       /* the first pipe that has sleepers */
-    struct fsw_buffer *buffer;                 /* limits.buffers for each application */
+    struct pipe pipe[PIPE_PLACES];
+    struct pipe *asleep;       /* the first pipe that has sleepers */
+    struct fsw_buffer *buffer; /* limits.buffers for each application */
     struct pool pool[MOST_POOLS];
     struct table table[MOST_TABLES];
     struct handle handle[MOST_HANDLES];
@@ -113,6 +119,18 @@ extern _Thread_local struct task *fsw_self;
 
 /* What is seldom called stays out of the callers' way. */
 #define FSW_SELDOM __attribute__((noinline, cold))
+
+/* Ends the program: a call of the system's failed that only overwritten memory can make fail. */
+FSW_SELDOM _Noreturn void fsw_break(void);
+
+static inline void fsw_must(int failed)
+{
+    if (failed)
+        fsw_break();
+}
+
+/* Makes the mutex, once. Threads that are of no application call this before they take it. */
+void fsw_prepare(void);
 
 /* Ends the calling task, which has the mutex. */
 FSW_SELDOM _Noreturn void fsw_end_task(void);
@@ -134,28 +152,34 @@ static inline struct app *fsw_enter(void)
     const struct task *self = fsw_self;
     if (!self)
         return NULL;
-    pthread_mutex_lock(&fsw_layer.mutex);
+    fsw_must(pthread_mutex_lock(&fsw_layer.mutex));
     if (self->is_ending)
         fsw_end_task();
-    /* Each task has one; so callers test what is null for a thread of none alone. */
-    if (!self->app)
-        __builtin_unreachable();
     return self->app;
 }
 
 static inline void fsw_leave(void)
 {
-    pthread_mutex_unlock(&fsw_layer.mutex);
+    fsw_must(pthread_mutex_unlock(&fsw_layer.mutex));
 }
 
 /* Goes on with a call that let the mutex go; the task doesn't end within it. */
 static inline void fsw_resume(void)
 {
-    pthread_mutex_lock(&fsw_layer.mutex);
+    fsw_must(pthread_mutex_lock(&fsw_layer.mutex));
 }
 
 /* Has every task that sleeps look at what changed. */
 void fsw_wake_all(void);
+
+/* Starts the main task of an application; the caller has the mutex. */
+bool fsw_start_main(struct app *app, void (*entry)(void));
+
+/* Has an application end: each of its tasks at its next call. */
+void fsw_end_app(struct app *app);
+
+/* Joins the tasks that are done; the mutex is let go meanwhile. */
+void fsw_join_tasks(void);
 
 /* The time so many milliseconds from now, for waits. */
 struct timespec fsw_after(uint32_t milliseconds);

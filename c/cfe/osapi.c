@@ -57,10 +57,11 @@ static int32 make_mutex(const char *name, osal_id_t *id)
         return OS_ERR_NO_FREE_IDS;
     struct named_mutex *made = &mutexes[free - 1];
     pthread_mutexattr_t kind;
-    pthread_mutexattr_init(&kind);
-    pthread_mutexattr_settype(&kind, PTHREAD_MUTEX_RECURSIVE);
+    fsw_must(pthread_mutexattr_init(&kind));
+    fsw_must(pthread_mutexattr_settype(&kind, PTHREAD_MUTEX_RECURSIVE));
+    fsw_must(pthread_mutexattr_setprotocol(&kind, PTHREAD_PRIO_INHERIT));
     int failed = pthread_mutex_init(&made->mutex, &kind);
-    pthread_mutexattr_destroy(&kind);
+    fsw_must(pthread_mutexattr_destroy(&kind));
     if (failed)
         return OS_SEM_FAILURE;
     made->is_made = true;
@@ -76,9 +77,10 @@ int32 OS_MutSemCreate(osal_id_t *sem_id, const char *sem_name, uint32 options)
         return OS_INVALID_POINTER;
     if (strlen(sem_name) >= OS_MAX_API_NAME)
         return OS_ERR_NAME_TOO_LONG;
-    pthread_mutex_lock(&fsw_layer.mutex);
+    fsw_prepare();
+    fsw_resume();
     int32 status = make_mutex(sem_name, sem_id);
-    pthread_mutex_unlock(&fsw_layer.mutex);
+    fsw_leave();
     return status;
 }
 
@@ -86,10 +88,11 @@ int32 OS_MutSemCreate(osal_id_t *sem_id, const char *sem_name, uint32 options)
 static pthread_mutex_t *mutex_at(osal_id_t id)
 {
     pthread_mutex_t *found = NULL;
-    pthread_mutex_lock(&fsw_layer.mutex);
+    fsw_prepare();
+    fsw_resume();
     if (1 <= id && id <= OS_MAX_MUTEXES && mutexes[id - 1].is_made)
         found = &mutexes[id - 1].mutex;
-    pthread_mutex_unlock(&fsw_layer.mutex);
+    fsw_leave();
     return found;
 }
 
@@ -112,12 +115,13 @@ int32 OS_MutSemGive(osal_id_t sem_id)
 int32 OS_MutSemDelete(osal_id_t sem_id)
 {
     int32 status = OS_ERR_INVALID_ID;
-    pthread_mutex_lock(&fsw_layer.mutex);
+    fsw_prepare();
+    fsw_resume();
     if (1 <= sem_id && sem_id <= OS_MAX_MUTEXES && mutexes[sem_id - 1].is_made)
         status = pthread_mutex_destroy(&mutexes[sem_id - 1].mutex) ? OS_SEM_FAILURE : OS_SUCCESS;
     if (status == OS_SUCCESS)
         mutexes[sem_id - 1].is_made = false;
-    pthread_mutex_unlock(&fsw_layer.mutex);
+    fsw_leave();
     return status;
 }
 
@@ -125,9 +129,10 @@ int32 OS_MutSemGetIdByName(osal_id_t *sem_id, const char *sem_name)
 {
     if (!sem_id || !sem_name)
         return OS_INVALID_POINTER;
-    pthread_mutex_lock(&fsw_layer.mutex);
+    fsw_prepare();
+    fsw_resume();
     osal_id_t id = mutex_named(sem_name);
-    pthread_mutex_unlock(&fsw_layer.mutex);
+    fsw_leave();
     if (id)
         *sem_id = id;
     return id ? OS_SUCCESS : OS_ERR_NAME_NOT_FOUND;

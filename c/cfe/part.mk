@@ -12,7 +12,7 @@ INSTALLED_HEADERS += $(filter-out cfe/layer.h,$(CFE_HEADERS))
 INSTALLED_PACKAGES += cfe/fsw_cfe
 ANALYZED += $(CFE_SOURCES) bench/layer_cost.c
 BENCHES += $(BUILD)/layer_cost
-TESTS += $(addprefix $(BUILD)/,layer_test layer_test.address layer_test.thread threads_test threads_test.thread soak_test)
+TESTS += $(addprefix $(BUILD)/,layer_test layer_test.address layer_test.thread priority_test threads_test threads_test.thread soak_test)
 
 $(BUILD)/%.o: cfe/%.c $(HEADERS) | $(BUILD)
 	$(COMPILE) -pthread -c $< -o $@

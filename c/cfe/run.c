@@ -1,25 +1,45 @@
-/* run.c: the applications' threads, from fsw_run to their ends. */
+/* run.c: the run of the applications, from fsw_run to their ends. */
 #include "layer.h"
 
+#include <stdio.h>
 #include <stdlib.h>
 #include <string.h>
 
-struct layer fsw_layer = {.mutex = PTHREAD_MUTEX_INITIALIZER};
-_Thread_local struct task *fsw_self;
+struct layer fsw_layer;
 
 /* ---- Every call ---- */
 
-void fsw_end_task(void)
+void fsw_break(void)
 {
-    pthread_mutex_unlock(&fsw_layer.mutex);
-    pthread_exit(NULL);
+    fputs("fsw: a call of the system's failed that can't\n", stderr);
+    abort();
+}
+
+/*
+ * A task that has the mutex runs at the highest priority of those that wait for it, so that no task
+ * of a middle priority holds them up. Where the system hasn't that, the mutex is a plain one.
+ */
+static void make_mutex(void)
+{
+    pthread_mutexattr_t kind;
+    fsw_must(pthread_mutexattr_init(&kind));
+    if (pthread_mutexattr_setprotocol(&kind, PTHREAD_PRIO_INHERIT) != 0 ||
+        pthread_mutex_init(&fsw_layer.mutex, &kind) != 0)
+        fsw_must(pthread_mutex_init(&fsw_layer.mutex, NULL));
+    fsw_must(pthread_mutexattr_destroy(&kind));
+}
+
+void fsw_prepare(void)
+{
+    static pthread_once_t once = PTHREAD_ONCE_INIT;
+    fsw_must(pthread_once(&once, make_mutex));
 }
 
 void fsw_wake_all(void)
 {
-    pthread_cond_broadcast(&fsw_layer.changed);
+    fsw_must(pthread_cond_broadcast(&fsw_layer.changed));
     for (struct pipe *pipe = fsw_layer.asleep; pipe; pipe = pipe->next_asleep)
-        pthread_cond_broadcast(&pipe->arrived);
+        fsw_must(pthread_cond_broadcast(&pipe->arrived));
 }
 
 struct timespec fsw_after(uint32_t milliseconds)
@@ -46,132 +66,6 @@ CFE_TIME_SysTime_t CFE_TIME_GetTime(void)
         nanoseconds += 1000000000;
     }
     return (CFE_TIME_SysTime_t){(uint32)seconds, (uint32)((nanoseconds << 32) / 1000000000)};
-}
-
-/* ---- Tasks ---- */
-
-/* Has an application end: each of its tasks at its next call. */
-static void end_app(struct app *app)
-{
-    app->is_ending = true;
-    for (size_t i = 0; i < MOST_TASKS; i++)
-        if (fsw_layer.task[i].app == app)
-            fsw_layer.task[i].is_ending = true;
-}
-
-/* However a task ends, by its return or within a call. */
-static void finish_task(void *of)
-{
-    struct task *task = of;
-    pthread_mutex_lock(&fsw_layer.mutex);
-    fsw_end_loads(task);
-    task->state = TASK_DONE;
-    if (task->is_main)
-        end_app(task->app);
-    fsw_wake_all();
-    pthread_mutex_unlock(&fsw_layer.mutex);
-}
-
-static void *run_task(void *of)
-{
-    fsw_self = of;
-    pthread_cleanup_push(finish_task, of);
-    fsw_self->entry();
-    pthread_cleanup_pop(1);
-    return NULL;
-}
-
-/* Starts a task of an application; the caller has the mutex. Answers its place, from 1; 0: none. */
-static uint32_t start_task(struct app *app, void (*entry)(void), bool is_main)
-{
-    uint32_t place = 0;
-    while (place < MOST_TASKS && fsw_layer.task[place].state != TASK_NONE)
-        place++;
-    if (place == MOST_TASKS)
-        return 0;
-    struct task *task = &fsw_layer.task[place];
-    *task = (struct task){.state = TASK_RUNS, .is_main = is_main, .app = app, .entry = entry};
-    if (pthread_create(&task->thread, NULL, run_task, task) != 0) {
-        task->state = TASK_NONE;
-        return 0;
-    }
-    app->tasks++;
-    return place + 1;
-}
-
-CFE_Status_t CFE_ES_CreateChildTask(CFE_ES_TaskId_t *TaskIdPtr, const char *TaskName,
-                                    CFE_ES_ChildTaskMainFuncPtr_t FunctionPtr,
-                                    CFE_ES_StackPointer_t StackPtr, size_t StackSize,
-                                    CFE_ES_TaskPriority_Atom_t Priority, uint32 Flags)
-{
-    (void)StackPtr;
-    (void)StackSize;
-    (void)Priority;
-    (void)Flags;
-    if (!TaskIdPtr || !TaskName || !FunctionPtr)
-        return CFE_ES_BAD_ARGUMENT;
-    struct app *app = fsw_enter();
-    if (!app)
-        return CFE_ES_ERR_RESOURCEID_NOT_VALID;
-    /* As in cFE, a child has no children. */
-    uint32_t place = fsw_self->is_main ? start_task(app, FunctionPtr, false) : 0;
-    fsw_leave();
-    if (!place)
-        return CFE_ES_ERR_CHILD_TASK_CREATE;
-    *TaskIdPtr = place;
-    return CFE_SUCCESS;
-}
-
-CFE_Status_t CFE_ES_GetTaskID(CFE_ES_TaskId_t *TaskIdPtr)
-{
-    if (!TaskIdPtr)
-        return CFE_ES_BAD_ARGUMENT;
-    if (!fsw_enter())
-        return CFE_ES_ERR_RESOURCEID_NOT_VALID;
-    *TaskIdPtr = (CFE_ES_TaskId_t)(fsw_self - fsw_layer.task) + 1;
-    fsw_leave();
-    return CFE_SUCCESS;
-}
-
-static CFE_Status_t delete_task(uint32_t place)
-{
-    if (place < 1 || place > MOST_TASKS || fsw_layer.task[place - 1].state != TASK_RUNS)
-        return CFE_ES_ERR_RESOURCEID_NOT_VALID;
-    if (fsw_layer.task[place - 1].is_main)
-        return CFE_ES_ERR_CHILD_TASK_DELETE_MAIN_TASK;
-    fsw_layer.task[place - 1].is_ending = true;
-    fsw_wake_all();
-    return CFE_SUCCESS;
-}
-
-CFE_Status_t CFE_ES_DeleteChildTask(CFE_ES_TaskId_t TaskId)
-{
-    if (!fsw_enter())
-        return CFE_ES_ERR_RESOURCEID_NOT_VALID;
-    CFE_Status_t status = delete_task(TaskId);
-    fsw_leave();
-    return status;
-}
-
-void CFE_ES_ExitChildTask(void)
-{
-    if (!fsw_enter())
-        return;
-    if (!fsw_self->is_main)
-        fsw_self->is_ending = true;
-    fsw_end_if_asked();
-    fsw_leave();
-}
-
-void CFE_ES_ExitApp(uint32 ExitStatus)
-{
-    struct app *app = fsw_enter();
-    if (!app)
-        return;
-    app->has_failed = ExitStatus > CFE_ES_RunStatus_APP_EXIT && !fsw_layer.is_stopping;
-    end_app(app);
-    fsw_wake_all();
-    fsw_end_task();
 }
 
 /* ---- The loop of an application ---- */
@@ -226,18 +120,20 @@ void fsw_configure(const struct fsw_config *config)
 {
     if (!config)
         return;
-    pthread_mutex_lock(&fsw_layer.mutex);
+    fsw_prepare();
+    fsw_resume();
     fsw_layer.config = *config;
-    pthread_mutex_unlock(&fsw_layer.mutex);
+    fsw_leave();
 }
 
 void fsw_stop(void)
 {
-    pthread_mutex_lock(&fsw_layer.mutex);
+    fsw_prepare();
+    fsw_resume();
     fsw_layer.is_stopping = true;
     if (fsw_layer.is_running)
         fsw_wake_all();
-    pthread_mutex_unlock(&fsw_layer.mutex);
+    fsw_leave();
 }
 
 static bool are_apps(const struct fsw_limits *limits, const struct fsw_app *apps, size_t count)
@@ -253,6 +149,18 @@ static bool are_apps(const struct fsw_limits *limits, const struct fsw_app *apps
                 return false;
     }
     return true;
+}
+
+/* The conditions that tasks wait for, by the clock that isn't set. */
+static void make_conditions(void)
+{
+    pthread_condattr_t clock;
+    fsw_must(pthread_condattr_init(&clock));
+    fsw_must(pthread_condattr_setclock(&clock, CLOCK_MONOTONIC));
+    fsw_must(pthread_cond_init(&fsw_layer.changed, &clock));
+    for (size_t i = 0; i < PIPE_PLACES; i++)
+        fsw_must(pthread_cond_init(&fsw_layer.pipe[i].arrived, &clock));
+    fsw_must(pthread_condattr_destroy(&clock));
 }
 
 /* Clears all that a run before left, but for the mutex and what was configured. */
@@ -279,13 +187,7 @@ static bool open_layer(const struct fsw_limits *limits)
     }
     /* A full log drops its oldest line, so that the bus's newest events are there to be told. */
     fsw_set_log_mode(&layer->core, 1, 0);
-    pthread_condattr_t clock;
-    pthread_condattr_init(&clock);
-    pthread_condattr_setclock(&clock, CLOCK_MONOTONIC);
-    pthread_cond_init(&layer->changed, &clock);
-    for (size_t i = 0; i < sizeof layer->pipe / sizeof layer->pipe[0]; i++)
-        pthread_cond_init(&layer->pipe[i].arrived, &clock);
-    pthread_condattr_destroy(&clock);
+    make_conditions();
     clock_gettime(CLOCK_MONOTONIC, &layer->began);
     return true;
 }
@@ -296,37 +198,29 @@ static void close_layer(void)
     fsw_close(&layer->core);
     free(layer->buffer);
     layer->buffer = NULL;
-    pthread_cond_destroy(&layer->changed);
-    for (size_t i = 0; i < sizeof layer->pipe / sizeof layer->pipe[0]; i++)
-        pthread_cond_destroy(&layer->pipe[i].arrived);
+    fsw_must(pthread_cond_destroy(&layer->changed));
+    for (size_t i = 0; i < PIPE_PLACES; i++)
+        fsw_must(pthread_cond_destroy(&layer->pipe[i].arrived));
 }
 
 /* Starts all applications or none: at a failure those that began end at their first call. */
 static bool start_apps(const struct fsw_app *apps, size_t count)
 {
+    size_t started = 0;
     fsw_layer.apps = (uint32_t)count;
-    for (uint32_t i = 0; i < count; i++)
-        fsw_layer.app[i] = (struct app){.name = apps[i].name, .number = i + 1};
-    for (size_t i = 0; i < count; i++)
-        if (!start_task(&fsw_layer.app[i], apps[i].entry, true)) {
-            for (size_t k = 0; k < count; k++)
-                end_app(&fsw_layer.app[k]);
-            return false;
-        }
-    return true;
-}
-
-/* Joins the tasks that are done. A thread that is done takes the mutex no more. */
-static void join_tasks(void)
-{
-    for (size_t i = 0; i < MOST_TASKS; i++) {
-        struct task *task = &fsw_layer.task[i];
-        if (task->state != TASK_DONE)
-            continue;
-        pthread_join(task->thread, NULL);
-        task->app->tasks--;
-        task->state = TASK_NONE;
+    fsw_layer.has_priorities = false;
+    for (uint32_t i = 0; i < count; i++) {
+        fsw_layer.app[i] = (struct app){.name = apps[i].name,
+                                        .number = i + 1,
+                                        .stack_size = apps[i].stack_size,
+                                        .priority = apps[i].priority};
+        fsw_layer.has_priorities |= apps[i].priority > 0;
     }
+    while (started < count && fsw_start_main(&fsw_layer.app[started], apps[started].entry))
+        started++;
+    for (size_t i = 0; started < count && i < count; i++)
+        fsw_end_app(&fsw_layer.app[i]);
+    return started == count;
 }
 
 /* Ends the applications whose tasks have all ended; answers how many aren't there yet. */
@@ -352,10 +246,10 @@ static uint32_t end_apps(void)
 static int wait_for_ends(void)
 {
     int errors = 0;
-    join_tasks();
+    fsw_join_tasks();
     while (end_apps() > 0) {
-        pthread_cond_wait(&fsw_layer.changed, &fsw_layer.mutex);
-        join_tasks();
+        fsw_must(pthread_cond_wait(&fsw_layer.changed, &fsw_layer.mutex));
+        fsw_join_tasks();
     }
     for (uint32_t i = 0; i < fsw_layer.apps; i++)
         errors += fsw_layer.app[i].has_failed;
@@ -368,7 +262,8 @@ int fsw_run(const struct fsw_limits *limits, const struct fsw_app *apps, size_t 
     int answer = -1;
     if (!limits)
         limits = &usual;
-    pthread_mutex_lock(&fsw_layer.mutex);
+    fsw_prepare();
+    fsw_resume();
     if (!fsw_layer.is_running && are_apps(limits, apps, count) && open_layer(limits)) {
         fsw_layer.is_running = true;
         fsw_layer.is_stopping = false;
@@ -378,6 +273,6 @@ int fsw_run(const struct fsw_limits *limits, const struct fsw_app *apps, size_t 
         close_layer();
         fsw_layer.is_running = false;
     }
-    pthread_mutex_unlock(&fsw_layer.mutex);
+    fsw_leave();
     return answer;
 }

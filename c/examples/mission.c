@@ -25,8 +25,8 @@ static void *stop_at_signal(void *unused)
 
 int main(int argc, char **argv)
 {
-    static const struct fsw_app apps[] = {{"SAMPLE_APP", SAMPLE_APP_Main},
-                                          {"GROUND_LINK", GROUND_LINK_Main}};
+    static const struct fsw_app apps[] = {{.name = "SAMPLE_APP", .entry = SAMPLE_APP_Main},
+                                          {.name = "GROUND_LINK", .entry = GROUND_LINK_Main}};
     static const CFE_SB_MsgId_t telemetry[] = {SAMPLE_APP_HK_TLM_MID, CFE_EVS_LONG_EVENT_MSG_MID};
     const struct fsw_config config = {.sends_events = true,
                                       .prints_events = true,

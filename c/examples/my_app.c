@@ -33,7 +33,7 @@ static void MY_APP_Main(void)
 
 int main(void)
 {
-    static const struct fsw_app apps[] = {{"MY_APP", MY_APP_Main}};
+    static const struct fsw_app apps[] = {{.name = "MY_APP", .entry = MY_APP_Main}};
     const struct fsw_config config = {.prints_events = true};
     fsw_configure(&config);
     return fsw_run(NULL, apps, 1); /* NULL: the usual limits */

@@ -128,7 +128,8 @@ static void *stop_at_signal(void *unused)
 
 int main(int argc, char **argv)
 {
-    static const struct fsw_app apps[] = {{"SBN", SBN_Main}, {"NODE", NODE_Main}};
+    static const struct fsw_app apps[] = {{.name = "SBN", .entry = SBN_Main},
+                                          {.name = "NODE", .entry = NODE_Main}};
     const struct fsw_config config = {.prints_events = true, .spacecraft = 0x42, .processor = 1};
     pthread_t stopper;
     if (argc != 3) {

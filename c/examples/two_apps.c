@@ -56,7 +56,8 @@ static void DISPLAY_Main(void)
 
 int main(void)
 {
-    static const struct fsw_app apps[] = {{"SENSOR", SENSOR_Main}, {"DISPLAY", DISPLAY_Main}};
+    static const struct fsw_app apps[] = {{.name = "SENSOR", .entry = SENSOR_Main},
+                                          {.name = "DISPLAY", .entry = DISPLAY_Main}};
     const struct fsw_config config = {.prints_events = true};
     fsw_configure(&config);
     return fsw_run(NULL, apps, sizeof apps / sizeof apps[0]);

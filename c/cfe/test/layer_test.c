@@ -795,7 +795,7 @@ static void overflow(void)
 /* Events are printed as lines: all of the bus's, if that is configured. */
 static void check_printed_events(void)
 {
-    static const struct fsw_app app = {"FIRST", overflow};
+    static const struct fsw_app app = {.name = "FIRST", .entry = overflow};
     const struct fsw_config config = {.prints_events = true,
                                       .all_bus_events = true,
                                       .spacecraft = 66,
@@ -1094,7 +1094,8 @@ static void share_tables(void)
 
 static void run(const char *name, void (*first)(void), void (*second)(void), int expected)
 {
-    const struct fsw_app apps[2] = {{"FIRST", first}, {"SECOND", second}};
+    const struct fsw_app apps[2] = {{.name = "FIRST", .entry = first},
+                                    {.name = "SECOND", .entry = second}};
     atomic_store(&phase, 0);
     int answer = fsw_run(NULL, apps, second ? 2 : 1);
     if (answer != expected) {
@@ -1142,7 +1143,7 @@ static void go_on_until_stop(void)
 
 static void stop(void)
 {
-    static const struct fsw_app app = {"FIRST", stop};
+    static const struct fsw_app app = {.name = "FIRST", .entry = stop};
     CFE_ES_WaitForStartupSync(10000);
     CHECK(fsw_run(NULL, &app, 1) == -1);
     OS_TaskDelay(20);
@@ -1167,9 +1168,12 @@ static void succeed(void)
 
 static void check_refused_runs(void)
 {
-    static const struct fsw_app none = {"", succeed}, twice[2] = {{"A", succeed}, {"A", succeed}},
-                                long_name = {"TWENTY_BYTES_OF_NAME", succeed}, good = {"A", fail},
-                                empty = {"A", NULL};
+    static const struct fsw_app none = {.name = "", .entry = succeed},
+                                twice[2] = {{.name = "A", .entry = succeed},
+                                            {.name = "A", .entry = succeed}},
+                                long_name = {.name = "TWENTY_BYTES_OF_NAME", .entry = succeed},
+                                good = {.name = "A", .entry = fail},
+                                empty = {.name = "A", .entry = NULL};
     struct fsw_limits limits = FSW_USUAL_LIMITS;
     CFE_SB_PipeId_t pipe;
     CFE_SB_Buffer_t *buffer;

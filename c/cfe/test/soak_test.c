@@ -95,7 +95,7 @@ static void carry(void)
 
 int main(int argc, char **argv)
 {
-    static const struct fsw_app app = {"SOAK", carry};
+    static const struct fsw_app app = {.name = "SOAK", .entry = carry};
     if (argc > 1)
         messages = strtoul(argv[1], NULL, 10);
     CHECK(fsw_run(NULL, &app, 1) == 0);

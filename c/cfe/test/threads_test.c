@@ -369,7 +369,7 @@ int main(int argc, char **argv)
     limits.dests = 64;
     for (unsigned i = 0; i < APPS; i++) {
         snprintf(names[i], sizeof names[i], "APP%u", i + 1);
-        apps[i] = (struct fsw_app){names[i], call_everything};
+        apps[i] = (struct fsw_app){.name = names[i], .entry = call_everything};
     }
     CHECK(OS_MutSemCreate(&mutex, "GUARD", 0) == OS_SUCCESS);
     clock_gettime(CLOCK_MONOTONIC, &deadline);

@@ -152,7 +152,8 @@ static void ground(void)
 
 int main(int argc, char **argv)
 {
-    static const struct fsw_app apps[] = {{"SAMPLE_APP", SAMPLE_APP_Main}, {"GROUND", ground}};
+    static const struct fsw_app apps[] = {{.name = "SAMPLE_APP", .entry = SAMPLE_APP_Main},
+                                          {.name = "GROUND", .entry = ground}};
     const struct fsw_config config = {.sends_events = true, .prints_events = false};
     if (argc > 1)
         folder = argv[1];
