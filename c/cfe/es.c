@@ -9,6 +9,9 @@
 #include <stdio.h>
 #include <string.h>
 
+/* The bytes of a line of the system log, with its zero byte. */
+enum { MOST_LINE = 256 };
+
 /* ---- Applications ---- */
 
 CFE_Status_t CFE_ES_GetAppID(CFE_ES_AppId_t *AppIdPtr)
@@ -60,16 +63,21 @@ CFE_Status_t CFE_ES_GetAppName(char *AppName, CFE_ES_AppId_t AppId, size_t Buffe
 
 CFE_Status_t CFE_ES_WriteToSysLog(const char *SpecStringPtr, ...)
 {
-    char text[256];
+    char text[MOST_LINE], line[MOST_LINE];
     if (!SpecStringPtr)
         return CFE_ES_BAD_ARGUMENT;
     va_list arguments;
     va_start(arguments, SpecStringPtr);
     int length = vsnprintf(text, sizeof text, SpecStringPtr, arguments);
     va_end(arguments);
+    if (length < 0)
+        return CFE_ES_BAD_ARGUMENT;
     /* Applications leave the line's end to cFE, or write it. */
     size_t shown = strlen(text);
-    fprintf(stderr, "%s%s", text, shown > 0 && text[shown - 1] == '\n' ? "" : "\n");
+    if (shown > 0 && text[shown - 1] == '\n')
+        text[shown - 1] = '\0';
+    fsw_copy_printable(line, sizeof line, text);
+    fprintf(stderr, "%s\n", line);
     return length < (int)sizeof text ? CFE_SUCCESS : CFE_ES_ERR_SYS_LOG_TRUNCATED;
 }
 
@@ -162,7 +170,7 @@ CFE_Status_t CFE_ES_PoolCreate(CFE_ES_MemHandle_t *PoolID, void *MemPtr, size_t 
     uint32_t status = fsw_pool_create(&fsw_layer.core, app->number, (uint32_t)Size, &number);
     if (status == FSW_SUCCESS) {
         struct pool *pool = &fsw_layer.pool[number - 1];
-        *pool = (struct pool){.at = MemPtr, .size = (uint32_t)Size};
+        *pool = (struct pool){.at = MemPtr, .creator = app, .size = (uint32_t)Size};
         for (uint32_t i = 0; i < BLOCK_SIZES; i++)
             if (fsw_pool_class(&fsw_layer.core, number, i, &stats) == FSW_SUCCESS)
                 pool->sizes[i] = stats.size;
@@ -222,8 +230,10 @@ static uint32_t get_block(const struct app *app, uint32_t number, uint32_t size,
     struct pool *pool = pool_numbered(number);
     uint32_t uncut = uncut_of(number);
     uint64_t grant = 0;
+    if (!pool)
+        return FSW_ES_NO_SUCH_POOL;
     uint32_t status = fsw_pool_get(&fsw_layer.core, app->number, number, size, &grant);
-    if (status != FSW_SUCCESS || !pool)
+    if (status != FSW_SUCCESS)
         return status;
     *block = place_block(pool, number, size, uncut);
     if (!*block) {
@@ -316,7 +326,9 @@ CFE_Status_t CFE_ES_GetMemPoolStats(CFE_ES_MemPoolStats_t *BufPtr, CFE_ES_MemHan
         return CFE_ES_BAD_ARGUMENT;
     if (!fsw_enter())
         return CFE_ES_ERR_RESOURCEID_NOT_VALID;
-    uint32_t status = fsw_pool_stats(&fsw_layer.core, PoolID, &stats);
+    uint32_t status = FSW_ES_NO_SUCH_POOL;
+    if (pool_numbered(PoolID))
+        status = fsw_pool_stats(&fsw_layer.core, PoolID, &stats);
     if (status == FSW_SUCCESS) {
         *BufPtr = (CFE_ES_MemPoolStats_t){.PoolSize = stats.size,
                                           .NumBlocksRequested = stats.requests,
@@ -329,20 +341,32 @@ CFE_Status_t CFE_ES_GetMemPoolStats(CFE_ES_MemPoolStats_t *BufPtr, CFE_ES_MemHan
     return fsw_leave_with(status, CFE_ES_BAD_ARGUMENT);
 }
 
+void fsw_retire_pools(const struct app *app)
+{
+    for (size_t i = 0; i < MOST_POOLS; i++)
+        if (fsw_layer.pool[i].creator == app)
+            fsw_layer.pool[i].at = NULL;
+}
+
+/* Frees the blocks of a pool that an application has. */
+static void end_blocks_of(const struct app *app, struct pool *pool, uint32_t uncut)
+{
+    uint32_t end = pool->size - uncut, offset = OVERHEAD;
+    while (offset < end) {
+        struct block *block = block_at(pool, offset);
+        /* Where something wrote over this, what is behind stays lost. */
+        if (!is_sound(pool, block))
+            return;
+        if (block->app == app->number)
+            free_block(pool, block);
+        offset += pool->sizes[block->place] + OVERHEAD;
+    }
+}
+
 /* The core takes back what the application has of all pools; so the blocks are free here too. */
 void fsw_end_blocks(struct app *app)
 {
-    for (uint32_t number = 1; pool_numbered(number); number++) {
-        struct pool *pool = pool_numbered(number);
-        uint32_t end = pool->size - uncut_of(number);
-        for (uint32_t offset = OVERHEAD; offset < end;) {
-            struct block *block = block_at(pool, offset);
-            /* Where something wrote over this, what is behind stays lost. */
-            if (!is_sound(pool, block))
-                break;
-            if (block->app == app->number)
-                free_block(pool, block);
-            offset += pool->sizes[block->place] + OVERHEAD;
-        }
-    }
+    for (uint32_t number = 1; number <= MOST_POOLS; number++)
+        if (pool_numbered(number))
+            end_blocks_of(app, pool_numbered(number), uncut_of(number));
 }

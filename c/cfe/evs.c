@@ -62,8 +62,11 @@ static void send_packet(const struct app *app, const char *from, uint16 id, uint
 static void print_event(const struct fsw_config *config, const char *from, uint16 id,
                         const char *text)
 {
-    OS_printf("EVS Port1 %u/%u/%s %u: %s\n", (unsigned)config->spacecraft,
-              (unsigned)config->processor, from, id, text);
+    char shown[MOST_TEXT + 1];
+    fsw_copy_printable(shown, sizeof shown, text);
+    printf("EVS Port1 %u/%u/%s %u: %s\n", (unsigned)config->spacecraft, (unsigned)config->processor,
+           from, id, shown);
+    fflush(stdout);
 }
 
 /* ---- The bus's own events ---- */
@@ -189,9 +192,10 @@ CFE_Status_t CFE_EVS_SendEvent(uint16 EventID, uint16 EventType, const char *Spe
         return CFE_EVS_INVALID_PARAMETER;
     va_list arguments;
     va_start(arguments, Spec);
-    if (vsnprintf(text, sizeof text, Spec, arguments) < 0)
-        text[0] = '\0';
+    int length = vsnprintf(text, sizeof text, Spec, arguments);
     va_end(arguments);
+    if (length < 0)
+        return CFE_EVS_INVALID_PARAMETER;
     struct app *app = fsw_enter();
     if (!app)
         return CFE_ES_ERR_RESOURCEID_NOT_VALID;

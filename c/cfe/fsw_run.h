@@ -55,9 +55,17 @@ int fsw_run(const struct fsw_limits *limits, const struct fsw_app *apps, size_t 
 
 /*
  * Asks all applications to end: CFE_ES_RunLoop answers false, and a CFE_SB_ReceiveBuffer that waits
- * is refused. Any thread may call it, while fsw_run runs; no signal handler may.
+ * is refused. Before fsw_run, it is kept for the next run. Any thread may call it; no signal
+ * handler may.
  */
 void fsw_stop(void);
+
+/*
+ * Has each SIGTERM and SIGINT call fsw_stop, on a thread of its own. Called by main before it
+ * starts a thread: the signals are blocked in the caller, and in the threads that it starts then.
+ * False if the system refuses.
+ */
+bool fsw_stop_at_signals(void);
 
 /*
  * Stages the table file for the table that it names, as cFE's command CFE_TBL_LOAD_CC does, to be

@@ -10,6 +10,8 @@
 #include "fsw_run.h"
 
 #include <pthread.h>
+#include <setjmp.h>
+#include <stdatomic.h>
 #include <time.h>
 
 enum {
@@ -49,6 +51,7 @@ struct task {
     char name[CFE_MISSION_MAX_API_LEN];
     struct app *app;
     void (*entry)(void);
+    jmp_buf end; /* where it goes on to end, from within a call */
 };
 
 struct pipe {
@@ -59,7 +62,8 @@ struct pipe {
 };
 
 struct pool {
-    uint8_t *at;
+    uint8_t *at; /* null: there is none, or its creator ends */
+    const struct app *creator;
     uint32_t size;
     uint32_t sizes[BLOCK_SIZES];
     uint32_t free[BLOCK_SIZES]; /* the first free block of each size, as its offset; 0: none */
@@ -93,8 +97,8 @@ struct layer {
     bool has_priorities;    /* tasks run by their priorities */
     bool has_noticed;       /* that the system doesn't allow that */
     bool is_running;
-    bool is_stopping;
-    struct timespec began;
+    bool is_stopping;           /* since fsw_stop, also one before the run */
+    atomic_int_least64_t began; /* when the run did, in ns: read without the mutex */
     struct fsw_core core;
     struct fsw_limits limits;
     struct fsw_config config;
@@ -184,6 +188,9 @@ void fsw_join_tasks(void);
 /* The time so many milliseconds from now, for waits. */
 struct timespec fsw_after(uint32_t milliseconds);
 
+/* Copies a text that is printed, cut to its room: what is no printable ASCII is a dot there. */
+void fsw_copy_printable(char *to, size_t room, const char *from);
+
 /* A status for an application: a status of the library's own, which cFE hasn't, is `otherwise`. */
 static inline CFE_Status_t fsw_status(uint32_t status, CFE_Status_t otherwise)
 {
@@ -240,6 +247,9 @@ void fsw_end_buffers(struct app *app);
 void fsw_end_blocks(struct app *app);
 void fsw_end_tables(struct app *app);
 void fsw_end_pipes(void);
+
+/* The layer doesn't touch the memory of an application's pools from now on: it may go away. */
+void fsw_retire_pools(const struct app *app);
 
 /* Drops what a task loads, if it ends within a validation function. */
 void fsw_end_loads(const struct task *task);

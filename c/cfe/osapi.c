@@ -1,6 +1,7 @@
 /* osapi.c: delays, printing and mutexes in the names of cFE's OS layer. */
 #include "layer.h"
 
+#include <errno.h>
 #include <stdarg.h>
 #include <stdio.h>
 #include <string.h>
@@ -9,7 +10,9 @@ int32 OS_TaskDelay(uint32 millisecond)
 {
     struct timespec until = fsw_after(millisecond);
     if (!fsw_enter()) {
-        clock_nanosleep(CLOCK_MONOTONIC, TIMER_ABSTIME, &until, NULL);
+        /* A signal doesn't end the delay. */
+        while (clock_nanosleep(CLOCK_MONOTONIC, TIMER_ABSTIME, &until, NULL) == EINTR)
+            ;
         return OS_SUCCESS;
     }
     while (pthread_cond_timedwait(&fsw_layer.changed, &fsw_layer.mutex, &until) == 0)

@@ -12,7 +12,10 @@ INSTALLED_HEADERS += $(filter-out cfe/layer.h,$(CFE_HEADERS))
 INSTALLED_PACKAGES += cfe/fsw_cfe
 ANALYZED += $(CFE_SOURCES) bench/layer_cost.c
 BENCHES += $(BUILD)/layer_cost
-TESTS += $(addprefix $(BUILD)/,layer_test layer_test.address layer_test.thread priority_test threads_test threads_test.thread soak_test)
+TESTS += $(addprefix $(BUILD)/,layer_test layer_test.address layer_test.thread priority_test faults_test faults_test.address faults_test.thread threads_test threads_test.thread soak_test)
+
+# C++ is tried where it is installed.
+TESTS += $(if $(shell command -v g++),$(BUILD)/cpp_test)
 
 $(BUILD)/%.o: cfe/%.c $(HEADERS) | $(BUILD)
 	$(COMPILE) -pthread -c $< -o $@
@@ -26,6 +29,9 @@ $(BUILD)/libfsw_cfe.a: $(CFE_OBJECTS)
 
 $(BUILD)/%_test: $(BUILD)/%_test.o $(CFE)
 	$(CC) $(CFLAGS) -pthread -o $@ $^
+
+$(BUILD)/cpp_test: cfe/test/cpp_test.cpp $(CFE) $(HEADERS)
+	g++ $(CFLAGS) -Wall -Wextra -std=c++17 $(INCLUDES) -pthread -o $@ $< $(CFE)
 
 $(BUILD)/layer_cost: bench/layer_cost.c $(CFE) $(HEADERS)
 	$(COMPILE) -pthread -o $@ $< $(CFE)

@@ -1,6 +1,7 @@
 /* run.c: the run of the applications, from fsw_run to their ends. */
 #include "layer.h"
 
+#include <signal.h>
 #include <stdio.h>
 #include <stdlib.h>
 #include <string.h>
@@ -45,7 +46,7 @@ void fsw_wake_all(void)
 struct timespec fsw_after(uint32_t milliseconds)
 {
     struct timespec time;
-    clock_gettime(CLOCK_MONOTONIC, &time);
+    fsw_must(clock_gettime(CLOCK_MONOTONIC, &time));
     time.tv_sec += milliseconds / 1000;
     time.tv_nsec += milliseconds % 1000 * 1000000L;
     if (time.tv_nsec >= 1000000000L) {
@@ -55,17 +56,29 @@ struct timespec fsw_after(uint32_t milliseconds)
     return time;
 }
 
-CFE_TIME_SysTime_t CFE_TIME_GetTime(void)
+static int64_t now_in_nanoseconds(void)
 {
     struct timespec now;
-    clock_gettime(CLOCK_MONOTONIC, &now);
-    int64_t seconds = now.tv_sec - fsw_layer.began.tv_sec;
-    int64_t nanoseconds = now.tv_nsec - fsw_layer.began.tv_nsec;
-    if (nanoseconds < 0) {
-        seconds--;
-        nanoseconds += 1000000000;
+    fsw_must(clock_gettime(CLOCK_MONOTONIC, &now));
+    return (int64_t)now.tv_sec * 1000000000 + now.tv_nsec;
+}
+
+CFE_TIME_SysTime_t CFE_TIME_GetTime(void)
+{
+    int64_t began = atomic_load(&fsw_layer.began);
+    int64_t since = now_in_nanoseconds() - began, nanoseconds = since % 1000000000;
+    return (CFE_TIME_SysTime_t){(uint32)(since / 1000000000),
+                                (uint32)((nanoseconds << 32) / 1000000000)};
+}
+
+void fsw_copy_printable(char *to, size_t room, const char *from)
+{
+    size_t length = 0;
+    while (length + 1 < room && from[length] != '\0') {
+        to[length] = ' ' <= from[length] && from[length] <= '~' ? from[length] : '.';
+        length++;
     }
-    return (CFE_TIME_SysTime_t){(uint32)seconds, (uint32)((nanoseconds << 32) / 1000000000)};
+    to[length] = '\0';
 }
 
 /* ---- The loop of an application ---- */
@@ -136,6 +149,29 @@ void fsw_stop(void)
     fsw_leave();
 }
 
+/* Each signal stops, since one may come before a run. */
+static void *stop_at_signals(void *of)
+{
+    int number = 0;
+    while (sigwait(of, &number) == 0)
+        fsw_stop();
+    return NULL;
+}
+
+bool fsw_stop_at_signals(void)
+{
+    static sigset_t signals;
+    pthread_t stopper;
+    if (sigemptyset(&signals) != 0 || sigaddset(&signals, SIGTERM) != 0 ||
+        sigaddset(&signals, SIGINT) != 0)
+        return false;
+    /* Threads inherit this, so that the stopper alone gets the signals. */
+    if (pthread_sigmask(SIG_BLOCK, &signals, NULL) != 0 ||
+        pthread_create(&stopper, NULL, stop_at_signals, &signals) != 0)
+        return false;
+    return pthread_detach(stopper) == 0;
+}
+
 static bool are_apps(const struct fsw_limits *limits, const struct fsw_app *apps, size_t count)
 {
     if (!apps || count == 0 || count > limits->apps || count > MOST_APPS)
@@ -188,7 +224,7 @@ static bool open_layer(const struct fsw_limits *limits)
     /* A full log drops its oldest line, so that the bus's newest events are there to be told. */
     fsw_set_log_mode(&layer->core, 1, 0);
     make_conditions();
-    clock_gettime(CLOCK_MONOTONIC, &layer->began);
+    atomic_store(&layer->began, now_in_nanoseconds());
     return true;
 }
 
@@ -266,12 +302,11 @@ int fsw_run(const struct fsw_limits *limits, const struct fsw_app *apps, size_t 
     fsw_resume();
     if (!fsw_layer.is_running && are_apps(limits, apps, count) && open_layer(limits)) {
         fsw_layer.is_running = true;
-        fsw_layer.is_stopping = false;
         bool has_started = start_apps(apps, count);
         int errors = wait_for_ends();
         answer = has_started ? errors : -1;
         close_layer();
-        fsw_layer.is_running = false;
+        fsw_layer.is_running = fsw_layer.is_stopping = false;
     }
     fsw_leave();
     return answer;

@@ -19,24 +19,27 @@ enum { SYSTEM_NAME = 16 };
 
 _Thread_local struct task *fsw_self;
 
+/* A jump, since pthread_exit needs a library that it loads then, and passes no catch (...). */
 void fsw_end_task(void)
 {
     fsw_leave();
-    pthread_exit(NULL);
+    longjmp(fsw_self->end, 1);
 }
 
 void fsw_end_app(struct app *app)
 {
     app->is_ending = true;
+    fsw_retire_pools(app);
     for (size_t i = 0; i < MOST_TASKS; i++)
         if (fsw_layer.task[i].app == app)
             fsw_layer.task[i].is_ending = true;
 }
 
-/* However a task ends, by its return or within a call. */
+/* However a task ends. Of what its thread still calls, the layer refuses all, as of any thread. */
 static void finish_task(void *of)
 {
     struct task *task = of;
+    fsw_self = NULL;
     fsw_resume();
     fsw_end_loads(task);
     task->state = TASK_DONE;
@@ -53,8 +56,9 @@ static void *run_task(void *of)
     fsw_self = task;
     snprintf(short_name, sizeof short_name, "%.*s", SYSTEM_NAME - 1, task->name);
     fsw_must(pthread_setname_np(pthread_self(), short_name));
-    pthread_cleanup_push(finish_task, of);
-    task->entry();
+    pthread_cleanup_push(finish_task, task);
+    if (setjmp(task->end) == 0)
+        task->entry();
     pthread_cleanup_pop(1);
     return NULL;
 }
@@ -155,17 +159,30 @@ bool fsw_start_main(struct app *app, void (*entry)(void))
     return start_task((struct wanted){app, app->name, entry, app->stack_size, app->priority, true});
 }
 
-/* Joins the tasks that are done. A thread that is done takes the mutex no more. */
+/* A task that is done and wasn't joined yet; or null. */
+static struct task *done_task(void)
+{
+    for (size_t i = 0; i < MOST_TASKS; i++)
+        if (fsw_layer.task[i].state == TASK_DONE)
+            return &fsw_layer.task[i];
+    return NULL;
+}
+
+/* A thread that ends may still call the layer, so the mutex is let go. */
+static void join_task(struct task *task)
+{
+    fsw_leave();
+    fsw_must(pthread_join(task->thread, NULL));
+    fsw_resume();
+    task->app->tasks--;
+    task->state = TASK_NONE;
+}
+
 void fsw_join_tasks(void)
 {
-    for (size_t i = 0; i < MOST_TASKS; i++) {
-        struct task *task = &fsw_layer.task[i];
-        if (task->state != TASK_DONE)
-            continue;
-        fsw_must(pthread_join(task->thread, NULL));
-        task->app->tasks--;
-        task->state = TASK_NONE;
-    }
+    struct task *task;
+    while ((task = done_task()) != NULL)
+        join_task(task);
 }
 
 /* ---- Calls ---- */

@@ -446,9 +446,10 @@ CFE_Status_t fsw_stage_table(const char *file)
     struct fsw_image image;
     if (!file)
         return CFE_TBL_BAD_ARGUMENT;
-    if (!fsw_self)
+    if (!fsw_enter())
         return CFE_ES_ERR_RESOURCEID_NOT_VALID;
     size_t most = fsw_layer.limits.tablemax;
+    fsw_leave();
     uint8_t *room = malloc(FILE_HEADERS + most);
     if (!room)
         return CFE_TBL_ERR_NO_BUFFER_AVAIL;

@@ -8,19 +8,15 @@
 #include "ground_link.h"
 #include "sample_app.h"
 
-#include <pthread.h>
-#include <signal.h>
+#include <stdio.h>
 #include <stdlib.h>
 
-static sigset_t signals;
-
-/* fsw_stop takes a mutex, so no signal handler may call it. */
-static void *stop_at_signal(void *unused)
+/* A port's number, or 0 if the text is none. */
+static uint16 port_of(const char *text)
 {
-    int number;
-    sigwait(&signals, &number);
-    fsw_stop();
-    return unused;
+    char *end;
+    unsigned long number = strtoul(text, &end, 10);
+    return number <= UINT16_MAX && end != text && *end == '\0' ? (uint16)number : 0;
 }
 
 int main(int argc, char **argv)
@@ -32,21 +28,18 @@ int main(int argc, char **argv)
                                       .prints_events = true,
                                       .spacecraft = 0x42,
                                       .processor = 1};
-    pthread_t stopper;
     GROUND_LINK_Config.telemetry = telemetry;
     GROUND_LINK_Config.telemetry_count = sizeof telemetry / sizeof telemetry[0];
     if (argc == 3) {
-        GROUND_LINK_Config.command_port = (uint16)atoi(argv[1]);
-        GROUND_LINK_Config.telemetry_port = (uint16)atoi(argv[2]);
+        GROUND_LINK_Config.command_port = port_of(argv[1]);
+        GROUND_LINK_Config.telemetry_port = port_of(argv[2]);
     }
-    sigemptyset(&signals);
-    sigaddset(&signals, SIGTERM);
-    sigaddset(&signals, SIGINT);
-    /* All threads inherit this, so that the stopper alone gets the signals. */
-    pthread_sigmask(SIG_BLOCK, &signals, NULL);
-    if (pthread_create(&stopper, NULL, stop_at_signal, NULL) != 0)
+    if (!GROUND_LINK_Config.command_port || !GROUND_LINK_Config.telemetry_port) {
+        fprintf(stderr, "usage: mission [COMMAND_PORT TELEMETRY_PORT]\n");
+        return 2;
+    }
+    if (!fsw_stop_at_signals())
         return 1;
-    pthread_detach(stopper);
     fsw_configure(&config);
     return fsw_run(NULL, apps, sizeof apps / sizeof apps[0]) == 0 ? 0 : 1;
 }

@@ -9,8 +9,6 @@
 #include "fsw_run.h"
 #include "sbn_zmq.h"
 
-#include <pthread.h>
-#include <signal.h>
 #include <stdio.h>
 #include <string.h>
 
@@ -19,7 +17,6 @@
 #define PRINT_MS       200
 #define PIPE_DEPTH     256
 
-static sigset_t signals;
 static uint32 place; /* of this node in the file, from 0 */
 
 typedef struct {
@@ -118,20 +115,11 @@ static void NODE_Main(void)
     }
 }
 
-static void *stop_at_signal(void *unused)
-{
-    int number;
-    sigwait(&signals, &number);
-    fsw_stop();
-    return unused;
-}
-
 int main(int argc, char **argv)
 {
     static const struct fsw_app apps[] = {{.name = "SBN", .entry = SBN_Main},
                                           {.name = "NODE", .entry = NODE_Main}};
     const struct fsw_config config = {.prints_events = true, .spacecraft = 0x42, .processor = 1};
-    pthread_t stopper;
     if (argc != 3) {
         fprintf(stderr, "usage: sbn_node FILE NAME\n");
         return 2;
@@ -142,13 +130,8 @@ int main(int argc, char **argv)
         fprintf(stderr, "sbn_node: no %s in %s\n", SBN_Name, SBN_File);
         return 2;
     }
-    sigemptyset(&signals);
-    sigaddset(&signals, SIGTERM);
-    sigaddset(&signals, SIGINT);
-    pthread_sigmask(SIG_BLOCK, &signals, NULL);
-    if (pthread_create(&stopper, NULL, stop_at_signal, NULL) != 0)
+    if (!fsw_stop_at_signals())
         return 1;
-    pthread_detach(stopper);
     fsw_configure(&config);
     return fsw_run(NULL, apps, sizeof apps / sizeof apps[0]) == 0 ? 0 : 1;
 }

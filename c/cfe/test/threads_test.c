@@ -212,6 +212,12 @@ static void use_table(struct mine *mine)
     }
 }
 
+/* In the end the pool's creator may have ended. */
+static void check_size(int32 answer, uint32 size)
+{
+    CHECK(answer == (int32)size || (answer == CFE_ES_ERR_RESOURCEID_NOT_VALID && is_over()));
+}
+
 static void use_pool(struct mine *mine)
 {
     uint32 place = draw(mine, BLOCKS), size = 1 + draw(mine, 200);
@@ -221,8 +227,8 @@ static void use_pool(struct mine *mine)
         const uint8 *byte = *block;
         for (uint32 i = 0; i < mine->block_size[place]; i++)
             CHECK(byte[i] == (uint8)mine->number);
-        CHECK(CFE_ES_GetPoolBufInfo(mine->pool, *block) == (int32)mine->block_size[place]);
-        CHECK(CFE_ES_PutPoolBuf(mine->pool, *block) == (int32)mine->block_size[place]);
+        check_size(CFE_ES_GetPoolBufInfo(mine->pool, *block), mine->block_size[place]);
+        check_size(CFE_ES_PutPoolBuf(mine->pool, *block), mine->block_size[place]);
         *block = NULL;
     } else if (CFE_ES_GetPoolBuf(block, mine->pool, size) == (int32)size) {
         mine->block_size[place] = size;
@@ -373,7 +379,7 @@ int main(int argc, char **argv)
     }
     CHECK(OS_MutSemCreate(&mutex, "GUARD", 0) == OS_SUCCESS);
     clock_gettime(CLOCK_MONOTONIC, &deadline);
-    deadline.tv_sec += argc > 1 ? atoi(argv[1]) : 1;
+    deadline.tv_sec += argc > 1 ? strtol(argv[1], NULL, 10) : 1;
     if (argc > 2)
         folder = argv[2];
     fsw_configure(&config);
