@@ -1,7 +1,7 @@
 /*
- * es.c: Executive Services in cFE's names: applications by name, the system log, the CRC, and
- * memory pools. The core keeps a pool's account: which blocks of each size are cut, and which are
- * out. Where the blocks lie, in the caller's memory, is kept here, in the 16 bytes before each.
+ * es.c: Executive Services in cFE's names: applications by name, the system log, and memory pools.
+ * The core keeps a pool's account: which blocks of each size are cut, and which are out. Where the
+ * blocks lie, in the caller's memory, is kept here, in the 16 bytes before each.
  */
 #include "layer.h"
 
@@ -79,30 +79,6 @@ CFE_Status_t CFE_ES_WriteToSysLog(const char *SpecStringPtr, ...)
     fsw_copy_printable(line, sizeof line, text);
     fprintf(stderr, "%s\n", line);
     return length < (int)sizeof text ? CFE_SUCCESS : CFE_ES_ERR_SYS_LOG_TRUNCATED;
-}
-
-/* What a byte adds to a CRC-16 by the polynomial 0xa001: what each of its bits adds. */
-#define BIT(byte, bit, adds) ((byte) >> (bit)&1 ? (adds) : 0)
-#define ADDS(byte)                                                                               \
-    (BIT(byte, 0, 0xc0c1) ^ BIT(byte, 1, 0xc181) ^ BIT(byte, 2, 0xc301) ^ BIT(byte, 3, 0xc601) ^ \
-     BIT(byte, 4, 0xcc01) ^ BIT(byte, 5, 0xd801) ^ BIT(byte, 6, 0xf001) ^ BIT(byte, 7, 0xa001))
-#define FOUR(byte)    ADDS(byte), ADDS(byte + 1), ADDS(byte + 2), ADDS(byte + 3)
-#define SIXTEEN(byte) FOUR(byte), FOUR(byte + 4), FOUR(byte + 8), FOUR(byte + 12)
-#define HALF(byte)                                                                                 \
-    SIXTEEN(byte), SIXTEEN(byte + 16), SIXTEEN(byte + 32), SIXTEEN(byte + 48), SIXTEEN(byte + 64), \
-        SIXTEEN(byte + 80), SIXTEEN(byte + 96), SIXTEEN(byte + 112)
-
-/* Each load of a table works out its CRC. */
-uint32 CFE_ES_CalculateCRC(const void *DataPtr, size_t DataLength, uint32 InputCRC, uint32 TypeCRC)
-{
-    static const uint16_t added[256] = {HALF(0), HALF(128)};
-    const uint8 *byte = DataPtr;
-    uint32 crc = InputCRC;
-    if (!DataPtr || TypeCRC != CFE_MISSION_ES_CRC_16)
-        return 0;
-    for (size_t i = 0; i < DataLength; i++)
-        crc = crc >> 8 ^ added[(crc ^ byte[i]) & 255];
-    return crc;
 }
 
 /* ---- Memory pools ---- */
@@ -215,7 +191,7 @@ static struct block *take_free(struct pool *pool, uint8_t place)
 static struct block *place_block(struct pool *pool, uint32_t number, uint32_t size, uint32_t uncut)
 {
     uint8_t place = 0;
-    while (pool->sizes[place] < size)
+    while (place + 1 < BLOCK_SIZES && pool->sizes[place] < size)
         place++;
     if (uncut_of(number) == uncut)
         return take_free(pool, place);

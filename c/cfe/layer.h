@@ -188,6 +188,9 @@ void fsw_join_tasks(void);
 /* The time so many milliseconds from now, for waits. */
 struct timespec fsw_after(uint32_t milliseconds);
 
+/* Lets the mutex go until something changed: 0 then, ETIMEDOUT if the time comes first. */
+int fsw_wait_until(const struct timespec *until);
+
 /* Copies a text that is printed, cut to its room: what is no printable ASCII is a dot there. */
 void fsw_copy_printable(char *to, size_t room, const char *from);
 

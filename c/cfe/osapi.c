@@ -15,7 +15,7 @@ int32 OS_TaskDelay(uint32 millisecond)
             ;
         return OS_SUCCESS;
     }
-    while (pthread_cond_timedwait(&fsw_layer.changed, &fsw_layer.mutex, &until) == 0)
+    while (fsw_wait_until(&until) == 0)
         fsw_end_if_asked();
     fsw_leave();
     return OS_SUCCESS;

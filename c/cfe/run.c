@@ -1,6 +1,7 @@
 /* run.c: the run of the applications, from fsw_run to their ends. */
 #include "layer.h"
 
+#include <errno.h>
 #include <signal.h>
 #include <stdio.h>
 #include <stdlib.h>
@@ -54,6 +55,13 @@ struct timespec fsw_after(uint32_t milliseconds)
         time.tv_nsec -= 1000000000L;
     }
     return time;
+}
+
+int fsw_wait_until(const struct timespec *until)
+{
+    int woken = pthread_cond_timedwait(&fsw_layer.changed, &fsw_layer.mutex, until);
+    fsw_must(woken != 0 && woken != ETIMEDOUT);
+    return woken;
 }
 
 static int64_t now_in_nanoseconds(void)
@@ -120,8 +128,8 @@ void CFE_ES_WaitForStartupSync(uint32 TimeOutMilliseconds)
         return;
     be_up(app);
     int woken = 0;
-    while (!are_all_up() && !fsw_layer.is_stopping && !woken) {
-        woken = pthread_cond_timedwait(&fsw_layer.changed, &fsw_layer.mutex, &until);
+    while (!are_all_up() && !fsw_layer.is_stopping && woken == 0) {
+        woken = fsw_wait_until(&until);
         fsw_end_if_asked();
     }
     fsw_leave();

@@ -11,21 +11,35 @@ enum { CORE_NAME = 19 };
 
 /* ---- Pipes ---- */
 
+/* What the layer has of a live pipe; or null. */
 static struct pipe *pipe_numbered(uint32_t number)
 {
-    struct pipe *pipe = fsw_layer.pipe;
-    while (pipe->number != number)
-        pipe++;
-    return pipe;
+    for (size_t i = 0; i < PIPE_PLACES; i++)
+        if (fsw_layer.pipe[i].number == number)
+            return &fsw_layer.pipe[i];
+    return NULL;
 }
 
-/* A place for a new pipe: one that nobody sleeps on. */
+/* A place for a new pipe: one that nobody sleeps on; or null. */
 static struct pipe *free_pipe(void)
 {
-    struct pipe *pipe = fsw_layer.pipe;
-    while (pipe->number || pipe->sleepers)
-        pipe++;
-    return pipe;
+    for (size_t i = 0; i < PIPE_PLACES; i++)
+        if (!fsw_layer.pipe[i].number && !fsw_layer.pipe[i].sleepers)
+            return &fsw_layer.pipe[i];
+    return NULL;
+}
+
+static uint32_t create_pipe(const struct app *app, uint32_t depth, const char *name,
+                            uint32_t *number)
+{
+    struct pipe *pipe = free_pipe();
+    if (!pipe)
+        return FSW_SB_MAX_PIPES_MET;
+    uint32_t status =
+        fsw_create_pipe(&fsw_layer.core, app->number, depth, name, strlen(name), number);
+    if (status == FSW_SUCCESS)
+        pipe->number = *number;
+    return status;
 }
 
 CFE_Status_t CFE_SB_CreatePipe(CFE_SB_PipeId_t *PipeIdPtr, uint16 Depth, const char *PipeName)
@@ -33,14 +47,15 @@ CFE_Status_t CFE_SB_CreatePipe(CFE_SB_PipeId_t *PipeIdPtr, uint16 Depth, const c
     if (!PipeIdPtr)
         return CFE_SB_BAD_ARGUMENT;
     *PipeIdPtr = CFE_SB_INVALID_PIPE;
-    const struct app *app;
-    if (!PipeName || !(app = fsw_enter()))
+    if (!PipeName)
+        return CFE_SB_BAD_ARGUMENT;
+    const struct app *app = fsw_enter();
+    if (!app)
         return CFE_SB_BAD_ARGUMENT;
     uint32_t number = 0;
-    uint32_t status =
-        fsw_create_pipe(&fsw_layer.core, app->number, Depth, PipeName, strlen(PipeName), &number);
+    uint32_t status = create_pipe(app, Depth, PipeName, &number);
     if (status == FSW_SUCCESS)
-        free_pipe()->number = *PipeIdPtr = number;
+        *PipeIdPtr = number;
     return fsw_leave_bus((struct fsw_asked){"CreatePipe", CFE_SB_CR_PIPE_BAD_ARG_EID, 0}, status);
 }
 
@@ -50,10 +65,10 @@ CFE_Status_t CFE_SB_DeletePipe(CFE_SB_PipeId_t PipeId)
     if (!app)
         return CFE_SB_BAD_ARGUMENT;
     uint32_t status = fsw_delete_pipe(&fsw_layer.core, app->number, PipeId);
-    if (status == FSW_SUCCESS) {
-        struct pipe *pipe = pipe_numbered(PipeId);
+    struct pipe *pipe = status == FSW_SUCCESS ? pipe_numbered(PipeId) : NULL;
+    if (pipe) {
         pipe->number = 0;
-        pthread_cond_broadcast(&pipe->arrived);
+        fsw_must(pthread_cond_broadcast(&pipe->arrived));
     }
     return fsw_leave_with(status, CFE_SB_BAD_ARGUMENT);
 }
@@ -69,7 +84,9 @@ CFE_Status_t CFE_SB_SetPipeOpts(CFE_SB_PipeId_t PipeId, uint8 Opts)
 
 CFE_Status_t CFE_SB_GetPipeOpts(CFE_SB_PipeId_t PipeId, uint8 *OptsPtr)
 {
-    if (!OptsPtr || !fsw_enter())
+    if (!OptsPtr)
+        return CFE_SB_BAD_ARGUMENT;
+    if (!fsw_enter())
         return CFE_SB_BAD_ARGUMENT;
     uint32_t status = fsw_get_options(&fsw_layer.core, PipeId, OptsPtr);
     return fsw_leave_with(status, CFE_SB_BAD_ARGUMENT);
@@ -79,7 +96,9 @@ CFE_Status_t CFE_SB_GetPipeName(char *PipeNameBuf, size_t PipeNameSize, CFE_SB_P
 {
     char name[CORE_NAME + 1];
     uint32_t length = 0;
-    if (!PipeNameBuf || PipeNameSize == 0 || !fsw_enter())
+    if (!PipeNameBuf || PipeNameSize == 0)
+        return CFE_SB_BAD_ARGUMENT;
+    if (!fsw_enter())
         return CFE_SB_BAD_ARGUMENT;
     uint32_t status = fsw_pipe_name(&fsw_layer.core, PipeId, name, CORE_NAME, &length);
     fsw_leave();
@@ -93,7 +112,9 @@ CFE_Status_t CFE_SB_GetPipeName(char *PipeNameBuf, size_t PipeNameSize, CFE_SB_P
 
 CFE_Status_t CFE_SB_GetPipeIdByName(CFE_SB_PipeId_t *PipeIdPtr, const char *PipeName)
 {
-    if (!PipeIdPtr || !PipeName || !fsw_enter())
+    if (!PipeIdPtr || !PipeName)
+        return CFE_SB_BAD_ARGUMENT;
+    if (!fsw_enter())
         return CFE_SB_BAD_ARGUMENT;
     *PipeIdPtr = CFE_SB_INVALID_PIPE;
     uint32_t status = fsw_find_pipe(&fsw_layer.core, PipeName, strlen(PipeName), PipeIdPtr);
@@ -169,7 +190,7 @@ void fsw_wake_sleepers(void)
         uint32_t waiting = 0;
         fsw_waiting(&fsw_layer.core, pipe->number, &waiting);
         if (waiting > 0)
-            pthread_cond_signal(&pipe->arrived);
+            fsw_must(pthread_cond_signal(&pipe->arrived));
     }
 }
 
@@ -255,9 +276,11 @@ static inline void follow(const struct fsw_sent *sent, bool is_asking)
 
 CFE_Status_t CFE_SB_TransmitMsg(const CFE_MSG_Message_t *MsgPtr, bool IncrementSequenceCount)
 {
-    const struct app *app;
     struct fsw_sent sent;
-    if (!MsgPtr || !(app = fsw_enter()))
+    if (!MsgPtr)
+        return CFE_SB_BAD_ARGUMENT;
+    const struct app *app = fsw_enter();
+    if (!app)
         return CFE_SB_BAD_ARGUMENT;
     uint32_t status = fsw_transmit(&fsw_layer.core, app->number, MsgPtr, length_of(MsgPtr),
                                    is_counted(MsgPtr, IncrementSequenceCount), &sent);
@@ -281,9 +304,10 @@ static void wake_up(struct pipe *pipe)
     if (--pipe->sleepers > 0)
         return;
     struct pipe **at = &fsw_layer.asleep;
-    while (*at != pipe)
+    while (*at && *at != pipe)
         at = &(*at)->next_asleep;
-    *at = pipe->next_asleep;
+    if (*at)
+        *at = pipe->next_asleep;
 }
 
 /* Whether a wait goes on: not if the task or all applications were asked to end. */
@@ -301,10 +325,13 @@ static uint32_t wait_for_message(uint32_t number, int32 TimeOut, struct fsw_mess
     struct timespec until = fsw_after(is_forever ? 0 : (uint32_t)TimeOut);
     uint32_t status = FSW_SB_NO_MESSAGE;
     int woken = 0;
+    if (!pipe)
+        return FSW_SB_BAD_ARGUMENT;
     fall_asleep(pipe);
-    while (status == FSW_SB_NO_MESSAGE && woken != ETIMEDOUT && is_patient()) {
+    while (status == FSW_SB_NO_MESSAGE && woken == 0 && is_patient()) {
         woken = is_forever ? pthread_cond_wait(&pipe->arrived, &fsw_layer.mutex)
                            : pthread_cond_timedwait(&pipe->arrived, &fsw_layer.mutex, &until);
+        fsw_must(woken != 0 && woken != ETIMEDOUT);
         status = fsw_receive(&fsw_layer.core, app->number, number, message);
     }
     wake_up(pipe);
@@ -330,12 +357,14 @@ FSW_SELDOM static CFE_Status_t receive_later(CFE_SB_Buffer_t **BufPtr, CFE_SB_Pi
 
 CFE_Status_t CFE_SB_ReceiveBuffer(CFE_SB_Buffer_t **BufPtr, CFE_SB_PipeId_t PipeId, int32 TimeOut)
 {
-    const struct app *app;
     struct fsw_message message;
     if (!BufPtr)
         return CFE_SB_BAD_ARGUMENT;
     *BufPtr = NULL;
-    if (TimeOut < CFE_SB_PEND_FOREVER || !(app = fsw_enter()))
+    if (TimeOut < CFE_SB_PEND_FOREVER)
+        return CFE_SB_BAD_ARGUMENT;
+    const struct app *app = fsw_enter();
+    if (!app)
         return CFE_SB_BAD_ARGUMENT;
     uint32_t status = fsw_receive(&fsw_layer.core, app->number, PipeId, &message);
     if (status != FSW_SUCCESS)
@@ -378,9 +407,11 @@ CFE_SB_Buffer_t *CFE_SB_AllocateMessageBuffer(size_t MsgSize)
 
 CFE_Status_t CFE_SB_TransmitBuffer(CFE_SB_Buffer_t *BufPtr, bool IncrementSequenceCount)
 {
-    const struct app *app;
     struct fsw_sent sent;
-    if (!BufPtr || !(app = fsw_enter()))
+    if (!BufPtr)
+        return CFE_SB_BAD_ARGUMENT;
+    const struct app *app = fsw_enter();
+    if (!app)
         return CFE_SB_BAD_ARGUMENT;
     struct fsw_buffer *buffer = buffer_at(app, BufPtr);
     bool counts = buffer && is_counted(&BufPtr->Msg, IncrementSequenceCount);
@@ -395,8 +426,10 @@ CFE_Status_t CFE_SB_TransmitBuffer(CFE_SB_Buffer_t *BufPtr, bool IncrementSequen
 
 CFE_Status_t CFE_SB_ReleaseMessageBuffer(CFE_SB_Buffer_t *BufPtr)
 {
-    const struct app *app;
-    if (!BufPtr || !(app = fsw_enter()))
+    if (!BufPtr)
+        return CFE_SB_BAD_ARGUMENT;
+    const struct app *app = fsw_enter();
+    if (!app)
         return CFE_SB_BAD_ARGUMENT;
     struct fsw_buffer *buffer = buffer_at(app, BufPtr);
     uint32_t status =

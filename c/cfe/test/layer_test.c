@@ -1127,6 +1127,31 @@ static void check_file_root(void)
     fsw_configure(&plain);
 }
 
+/* ---- CRC ---- */
+
+/* The CRC of one byte, a bit at a time. */
+static uint32 crc_of(uint8 byte, uint32 before)
+{
+    uint32 crc = before ^ byte;
+    for (int bit = 0; bit < 8; bit++)
+        crc = crc & 1 ? crc >> 1 ^ 0xa001 : crc >> 1;
+    return crc;
+}
+
+static void check_crc(void)
+{
+    CHECK(CFE_ES_CalculateCRC("123456789", 9, 0, CFE_MISSION_ES_CRC_16) == 0xbb3d);
+    CHECK(CFE_ES_CalculateCRC("56789", 5, CFE_ES_CalculateCRC("1234", 4, 0, CFE_MISSION_ES_CRC_16),
+                              CFE_MISSION_ES_CRC_16) == 0xbb3d);
+    CHECK(CFE_ES_CalculateCRC(NULL, 9, 0, CFE_MISSION_ES_CRC_16) == 0);
+    CHECK(CFE_ES_CalculateCRC("1", 1, 0, 1) == 0);
+    for (uint32 value = 0; value < 256; value++) {
+        uint8 byte = (uint8)value;
+        CHECK(CFE_ES_CalculateCRC(&byte, 1, 0, CFE_MISSION_ES_CRC_16) == crc_of(byte, 0));
+        CHECK(CFE_ES_CalculateCRC(&byte, 1, 0xffff, CFE_MISSION_ES_CRC_16) == crc_of(byte, 0xffff));
+    }
+}
+
 /* ---- Runs ---- */
 
 static void go_on_until_stop(void)
@@ -1218,7 +1243,7 @@ int main(int argc, char **argv)
     run("failure", fail, succeed, 1);
     check_printed_events();
     check_file_root();
-    CHECK(CFE_ES_CalculateCRC("123456789", 9, 0, CFE_MISSION_ES_CRC_16) == 0xbb3d);
+    check_crc();
     unlink(path_of("table.tbl"));
     printf("layer_test passed\n");
     return 0;
