@@ -50,10 +50,10 @@ def main():
     own = next(text for text in programs('C.md') if 'fsw_run(' in text)
     if not (TOP / 'c' / 'examples' / 'my_app.c').read_text(encoding='utf-8').endswith(own):
         sys.exit("c_pages: docs/C.md hasn't the text of c/examples/my_app.c")
-    if built(folder, 'my_app', [own], package('fsw_cfe')) != ''.join(f'EVS Port1 0/0/MY_APP 1: message {n}\n' for n in (1, 2, 3)):
+    if built(folder, 'my_app', [own], package('fsw_osal')) != ''.join(f'EVS Port1 0/0/MY_APP 1: message {n}\n' for n in (1, 2, 3)):
         sys.exit('c_pages: my_app prints something else')
     for start in programs('CFE.md'):
-        built(folder, 'start', [start, APPLICATIONS], package('fsw_cfe'))
+        built(folder, 'start', [start, APPLICATIONS], package('fsw_osal'))
     print('c_pages: the programs of the pages run')
 
 

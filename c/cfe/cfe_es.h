@@ -4,7 +4,7 @@
 
 #include "cfe_error.h"
 #include "cfe_mission_cfg.h"
-#include "osapi.h"
+#include "common_types.h"
 
 #ifdef __cplusplus
 extern "C" {

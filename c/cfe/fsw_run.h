@@ -36,6 +36,11 @@ struct fsw_config {
     /* Stands before the names of table files: with "." /cf/x.tbl is ./cf/x.tbl, as by cFE's OS
      * layer on POSIX. Null: nothing. It stays where it is while the program runs. */
     const char *file_root;
+    /*
+     * Starts a thread that calls `entry` once; 0 if there will be one. Null: the layer starts its
+     * threads itself. With cFE's OS layer it calls OS_TaskCreate. It makes no call of the layer.
+     */
+    int (*start_task)(const char *name, void (*entry)(void), size_t stack_size, uint8_t priority);
 };
 
 /* Says this before fsw_run; it stays. */
@@ -52,6 +57,9 @@ void fsw_configure(const struct fsw_config *config);
  * applications, a name isn't 1 to 19 bytes or is there twice, or the program runs already.
  */
 int fsw_run(const struct fsw_limits *limits, const struct fsw_app *apps, size_t count);
+
+/* Sleeps. A task whose application ends meanwhile ends here; so OS_TaskDelay of c/osal does. */
+void fsw_delay(uint32_t milliseconds);
 
 /*
  * Asks all applications to end: CFE_ES_RunLoop answers false, and a CFE_SB_ReceiveBuffer that waits

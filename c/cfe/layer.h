@@ -6,7 +6,11 @@
 #ifndef LAYER_H
 #define LAYER_H
 
-#include "cfe.h"
+#include "cfe_es.h"
+#include "cfe_evs.h"
+#include "cfe_sb.h"
+#include "cfe_tbl.h"
+#include "cfe_time.h"
 #include "fsw_run.h"
 
 #include <pthread.h>
@@ -47,6 +51,7 @@ struct task {
     pthread_t thread;
     enum task_state state;
     bool is_main;
+    bool is_joined; /* at its end: its thread is the layer's own */
     bool is_ending; /* it ends at its next call: it was asked to, or its application was */
     char name[CFE_MISSION_MAX_API_LEN];
     struct app *app;
@@ -96,7 +101,9 @@ struct layer {
     pthread_cond_t changed; /* a task or an application changed its state, or fsw_stop was called */
     bool has_priorities;    /* tasks run by their priorities */
     bool has_noticed;       /* that the system doesn't allow that */
+    struct task *starting;  /* the task that the next thread of fsw_config.start_task is of */
     bool is_running;
+    bool has_started;           /* all applications have: their tasks begin */
     bool is_stopping;           /* since fsw_stop, also one before the run */
     atomic_int_least64_t began; /* when the run did, in ns: read without the mutex */
     struct fsw_core core;

@@ -3,7 +3,7 @@
 CFE_SOURCES = $(wildcard cfe/*.c)
 CFE_OBJECTS = $(patsubst cfe/%.c,$(BUILD)/%.o,$(CFE_SOURCES))
 CFE_HEADERS = $(wildcard cfe/*.h)
-CFE = $(BUILD)/libfsw_cfe.a $(CORE)
+CFE = $(BUILD)/libfsw_osal.a $(BUILD)/libfsw_cfe.a $(CORE)
 
 INCLUDES += -Icfe
 HEADERS += $(CFE_HEADERS)
@@ -38,10 +38,10 @@ $(BUILD)/layer_cost: bench/layer_cost.c $(CFE) $(HEADERS)
 
 # ---- With a sanitizer: X.address, X.thread ----
 
-ADDRESS_CFE = $(CFE_OBJECTS:.o=.address.o) $(if $(LIBRARY),$(CORE),$(BUILD)/stand_in.address.o)
-THREAD_CFE = $(CFE_OBJECTS:.o=.thread.o) $(if $(LIBRARY),$(CORE),$(BUILD)/stand_in.thread.o)
+ADDRESS_CFE = $(CFE_OBJECTS:.o=.address.o) $(BUILD)/osapi.address.o $(if $(LIBRARY),$(CORE),$(BUILD)/stand_in.address.o)
+THREAD_CFE = $(CFE_OBJECTS:.o=.thread.o) $(BUILD)/osapi.thread.o $(if $(LIBRARY),$(CORE),$(BUILD)/stand_in.thread.o)
 
-SOURCE_FOLDERS = cfe cfe/test test examples examples/test
+SOURCE_FOLDERS = cfe osal cfe/test test examples examples/test
 
 define sanitized_objects
 $(BUILD)/%.address.o: $(1)/%.c $$(HEADERS) | $(BUILD)

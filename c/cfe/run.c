@@ -64,6 +64,23 @@ int fsw_wait_until(const struct timespec *until)
     return woken;
 }
 
+void fsw_delay(uint32_t milliseconds)
+{
+    struct timespec until = fsw_after(milliseconds);
+    int woken = 0;
+    if (!fsw_enter()) {
+        /* A signal doesn't end the delay. */
+        while (clock_nanosleep(CLOCK_MONOTONIC, TIMER_ABSTIME, &until, NULL) == EINTR)
+            ;
+        return;
+    }
+    while (woken == 0) {
+        woken = fsw_wait_until(&until);
+        fsw_end_if_asked();
+    }
+    fsw_leave();
+}
+
 static int64_t now_in_nanoseconds(void)
 {
     struct timespec now;
@@ -186,7 +203,7 @@ static bool are_apps(const struct fsw_limits *limits, const struct fsw_app *apps
         return false;
     for (size_t i = 0; i < count; i++) {
         if (!apps[i].name || !apps[i].entry || apps[i].name[0] == '\0' ||
-            strlen(apps[i].name) >= OS_MAX_API_NAME)
+            strlen(apps[i].name) >= CFE_MISSION_MAX_API_LEN)
             return false;
         for (size_t k = 0; k < i; k++)
             if (strcmp(apps[i].name, apps[k].name) == 0)
@@ -221,6 +238,8 @@ static bool open_layer(const struct fsw_limits *limits)
     layer->events_seen = 0;
     layer->requests = 0;
     layer->asleep = NULL;
+    layer->starting = NULL;
+    layer->has_started = false;
     layer->limits = *limits;
     layer->buffer = calloc((size_t)limits->apps * limits->buffers + 1, sizeof *layer->buffer);
     if (!layer->buffer)
@@ -247,7 +266,7 @@ static void close_layer(void)
         fsw_must(pthread_cond_destroy(&layer->pipe[i].arrived));
 }
 
-/* Starts all applications or none: at a failure those that began end at their first call. */
+/* Starts all applications or none: those whose threads are there wait until all are. */
 static bool start_apps(const struct fsw_app *apps, size_t count)
 {
     size_t started = 0;
@@ -264,6 +283,8 @@ static bool start_apps(const struct fsw_app *apps, size_t count)
         started++;
     for (size_t i = 0; started < count && i < count; i++)
         fsw_end_app(&fsw_layer.app[i]);
+    fsw_layer.has_started = true;
+    fsw_wake_all();
     return started == count;
 }
 

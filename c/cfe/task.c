@@ -17,6 +17,9 @@ enum { OWN_STACK = 65536 };
 /* The bytes of a thread's name that the system keeps, with its zero byte. */
 enum { SYSTEM_NAME = 16 };
 
+/* How long a thread of fsw_config.start_task may take to begin. */
+enum { START_MS = 10000 };
+
 _Thread_local struct task *fsw_self;
 
 /* A jump, since pthread_exit needs a library that it loads then, and passes no catch (...). */
@@ -49,15 +52,23 @@ static void finish_task(void *of)
     fsw_leave();
 }
 
+/* Waits until all applications have a thread; false if the task was asked to end before. */
+static bool may_begin(const struct task *task)
+{
+    fsw_resume();
+    while (!fsw_layer.has_started)
+        fsw_must(pthread_cond_wait(&fsw_layer.changed, &fsw_layer.mutex));
+    bool may = !task->is_ending;
+    fsw_leave();
+    return may;
+}
+
 static void *run_task(void *of)
 {
     struct task *task = of;
-    char short_name[SYSTEM_NAME];
     fsw_self = task;
-    snprintf(short_name, sizeof short_name, "%.*s", SYSTEM_NAME - 1, task->name);
-    fsw_must(pthread_setname_np(pthread_self(), short_name));
     pthread_cleanup_push(finish_task, task);
-    if (setjmp(task->end) == 0)
+    if (may_begin(task) && setjmp(task->end) == 0)
         task->entry();
     pthread_cleanup_pop(1);
     return NULL;
@@ -100,7 +111,16 @@ static void notice_refusal(void)
     fsw_layer.has_noticed = true;
 }
 
-/* Starts a task's thread. Answers 0, or why there is none. */
+static void *run_named_task(void *of)
+{
+    const struct task *task = of;
+    char short_name[SYSTEM_NAME];
+    snprintf(short_name, sizeof short_name, "%.*s", SYSTEM_NAME - 1, task->name);
+    fsw_must(pthread_setname_np(pthread_self(), short_name));
+    return run_task(of);
+}
+
+/* Starts a thread of the layer's own. Answers 0, or why there is none. */
 static int start_thread(struct task *task, size_t stack_size, uint8_t priority)
 {
     pthread_attr_t attributes;
@@ -109,15 +129,50 @@ static int start_thread(struct task *task, size_t stack_size, uint8_t priority)
         return failed;
     failed = set_attributes(&attributes, stack_size, priority);
     if (!failed)
-        failed = pthread_create(&task->thread, &attributes, run_task, task);
+        failed = pthread_create(&task->thread, &attributes, run_named_task, task);
     if (failed == EPERM) {
         notice_refusal();
         failed = pthread_attr_setinheritsched(&attributes, PTHREAD_INHERIT_SCHED);
         if (!failed)
-            failed = pthread_create(&task->thread, &attributes, run_task, task);
+            failed = pthread_create(&task->thread, &attributes, run_named_task, task);
     }
     fsw_must(pthread_attr_destroy(&attributes));
     return failed;
+}
+
+/* What a thread of fsw_config.start_task calls: it takes the task that is started. */
+static void run_started_task(void)
+{
+    fsw_resume();
+    struct task *task = fsw_layer.starting;
+    fsw_layer.starting = NULL;
+    fsw_wake_all();
+    fsw_leave();
+    if (task)
+        run_task(task);
+}
+
+/* Waits, for a time, until no task is being started that way. */
+static bool is_start_over(void)
+{
+    struct timespec until = fsw_after(START_MS);
+    int woken = 0;
+    while (fsw_layer.starting && woken == 0)
+        woken = fsw_wait_until(&until);
+    return !fsw_layer.starting;
+}
+
+/* Starts a thread as the configuration has it. Answers 0, or that there is none. */
+static int start_thread_outside(struct task *task, size_t stack_size, uint8_t priority)
+{
+    if (!is_start_over())
+        return EAGAIN;
+    fsw_layer.starting = task;
+    int failed = fsw_layer.config.start_task(task->name, run_started_task, stack_size, priority);
+    if (!failed && is_start_over())
+        return 0;
+    fsw_layer.starting = NULL;
+    return EAGAIN;
 }
 
 /* ---- Tasks ---- */
@@ -141,16 +196,21 @@ static uint32_t start_task(struct wanted wanted)
     if (place == MOST_TASKS)
         return 0;
     struct task *task = &fsw_layer.task[place];
+    bool is_own = !fsw_layer.config.start_task;
     *task = (struct task){.state = TASK_RUNS,
                           .is_main = wanted.is_main,
+                          .is_joined = is_own,
                           .app = wanted.app,
                           .entry = wanted.entry};
     snprintf(task->name, sizeof task->name, "%s", wanted.name);
-    if (start_thread(task, wanted.stack_size, wanted.priority) != 0) {
+    wanted.app->tasks++;
+    int failed = is_own ? start_thread(task, wanted.stack_size, wanted.priority)
+                        : start_thread_outside(task, wanted.stack_size, wanted.priority);
+    if (failed) {
+        wanted.app->tasks--;
         task->state = TASK_NONE;
         return 0;
     }
-    wanted.app->tasks++;
     return place + 1;
 }
 
@@ -171,9 +231,11 @@ static struct task *done_task(void)
 /* A thread that ends may still call the layer, so the mutex is let go. */
 static void join_task(struct task *task)
 {
-    fsw_leave();
-    fsw_must(pthread_join(task->thread, NULL));
-    fsw_resume();
+    if (task->is_joined) {
+        fsw_leave();
+        fsw_must(pthread_join(task->thread, NULL));
+        fsw_resume();
+    }
     task->app->tasks--;
     task->state = TASK_NONE;
 }

@@ -213,7 +213,7 @@ static uint32_t read_file(const char *path, uint8_t *room, size_t size, struct f
 {
     char whole[MOST_PATH];
     const char *root = fsw_layer.config.file_root;
-    if (strlen(path) >= OS_MAX_PATH_LEN ||
+    if (strlen(path) >= CFE_MISSION_MAX_PATH_LEN ||
         snprintf(whole, sizeof whole, "%s%s", root ? root : "", path) >= (int)sizeof whole)
         return (uint32_t)CFE_TBL_ERR_FILENAME_TOO_LONG;
     FILE *file = fopen(whole, "rb");

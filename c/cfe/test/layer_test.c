@@ -8,6 +8,7 @@
 #include "cfe_sb_events.h"
 #include "cfe_sb_msg.h"
 #include "check.h"
+#include "cfe.h"
 #include "layer.h"
 
 #include <stdatomic.h>

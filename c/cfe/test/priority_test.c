@@ -7,6 +7,7 @@
  */
 #define _GNU_SOURCE
 #include "check.h"
+#include "cfe.h"
 #include "layer.h"
 
 #include <sched.h>

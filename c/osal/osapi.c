@@ -1,23 +1,12 @@
-/* osapi.c: delays, printing and mutexes in the names of cFE's OS layer. */
-#include "layer.h"
+/* osapi.c: delays, printing and mutexes in the names of cFE's OS layer, over the layer. */
+#include "osapi.h"
+#include "fsw_run.h"
 
-#include <errno.h>
-#include <stdarg.h>
-#include <stdio.h>
-#include <string.h>
+#include <pthread.h>
 
 int32 OS_TaskDelay(uint32 millisecond)
 {
-    struct timespec until = fsw_after(millisecond);
-    if (!fsw_enter()) {
-        /* A signal doesn't end the delay. */
-        while (clock_nanosleep(CLOCK_MONOTONIC, TIMER_ABSTIME, &until, NULL) == EINTR)
-            ;
-        return OS_SUCCESS;
-    }
-    while (fsw_wait_until(&until) == 0)
-        fsw_end_if_asked();
-    fsw_leave();
+    fsw_delay(millisecond);
     return OS_SUCCESS;
 }
 
@@ -40,7 +29,45 @@ struct named_mutex {
 
 static struct named_mutex mutexes[OS_MAX_MUTEXES];
 
-/* The place of a name, from 1; 0: none has it. The caller has the layer's mutex. */
+/* Stands round all calls on them, but for the waits. */
+static pthread_mutex_t guard;
+static pthread_once_t once = PTHREAD_ONCE_INIT;
+
+/* A call of the system's that only overwritten memory can make fail. */
+static void must(int failed)
+{
+    if (failed)
+        abort();
+}
+
+static int make(pthread_mutex_t *mutex)
+{
+    pthread_mutexattr_t kind;
+    must(pthread_mutexattr_init(&kind));
+    must(pthread_mutexattr_settype(&kind, PTHREAD_MUTEX_RECURSIVE));
+    must(pthread_mutexattr_setprotocol(&kind, PTHREAD_PRIO_INHERIT));
+    int failed = pthread_mutex_init(mutex, &kind);
+    must(pthread_mutexattr_destroy(&kind));
+    return failed;
+}
+
+static void make_guard(void)
+{
+    must(make(&guard));
+}
+
+static void enter(void)
+{
+    must(pthread_once(&once, make_guard));
+    must(pthread_mutex_lock(&guard));
+}
+
+static void leave(void)
+{
+    must(pthread_mutex_unlock(&guard));
+}
+
+/* The place of a name, from 1; 0: none has it. */
 static osal_id_t mutex_named(const char *name)
 {
     for (osal_id_t id = 1; id <= OS_MAX_MUTEXES; id++)
@@ -59,13 +86,7 @@ static int32 make_mutex(const char *name, osal_id_t *id)
     if (free > OS_MAX_MUTEXES)
         return OS_ERR_NO_FREE_IDS;
     struct named_mutex *made = &mutexes[free - 1];
-    pthread_mutexattr_t kind;
-    fsw_must(pthread_mutexattr_init(&kind));
-    fsw_must(pthread_mutexattr_settype(&kind, PTHREAD_MUTEX_RECURSIVE));
-    fsw_must(pthread_mutexattr_setprotocol(&kind, PTHREAD_PRIO_INHERIT));
-    int failed = pthread_mutex_init(&made->mutex, &kind);
-    fsw_must(pthread_mutexattr_destroy(&kind));
-    if (failed)
+    if (make(&made->mutex) != 0)
         return OS_SEM_FAILURE;
     made->is_made = true;
     strcpy(made->name, name);
@@ -80,10 +101,9 @@ int32 OS_MutSemCreate(osal_id_t *sem_id, const char *sem_name, uint32 options)
         return OS_INVALID_POINTER;
     if (strlen(sem_name) >= OS_MAX_API_NAME)
         return OS_ERR_NAME_TOO_LONG;
-    fsw_prepare();
-    fsw_resume();
+    enter();
     int32 status = make_mutex(sem_name, sem_id);
-    fsw_leave();
+    leave();
     return status;
 }
 
@@ -91,11 +111,10 @@ int32 OS_MutSemCreate(osal_id_t *sem_id, const char *sem_name, uint32 options)
 static pthread_mutex_t *mutex_at(osal_id_t id)
 {
     pthread_mutex_t *found = NULL;
-    fsw_prepare();
-    fsw_resume();
+    enter();
     if (1 <= id && id <= OS_MAX_MUTEXES && mutexes[id - 1].is_made)
         found = &mutexes[id - 1].mutex;
-    fsw_leave();
+    leave();
     return found;
 }
 
@@ -118,13 +137,12 @@ int32 OS_MutSemGive(osal_id_t sem_id)
 int32 OS_MutSemDelete(osal_id_t sem_id)
 {
     int32 status = OS_ERR_INVALID_ID;
-    fsw_prepare();
-    fsw_resume();
+    enter();
     if (1 <= sem_id && sem_id <= OS_MAX_MUTEXES && mutexes[sem_id - 1].is_made)
         status = pthread_mutex_destroy(&mutexes[sem_id - 1].mutex) ? OS_SEM_FAILURE : OS_SUCCESS;
     if (status == OS_SUCCESS)
         mutexes[sem_id - 1].is_made = false;
-    fsw_leave();
+    leave();
     return status;
 }
 
@@ -132,10 +150,9 @@ int32 OS_MutSemGetIdByName(osal_id_t *sem_id, const char *sem_name)
 {
     if (!sem_id || !sem_name)
         return OS_INVALID_POINTER;
-    fsw_prepare();
-    fsw_resume();
+    enter();
     osal_id_t id = mutex_named(sem_name);
-    fsw_leave();
+    leave();
     if (id)
         *sem_id = id;
     return id ? OS_SUCCESS : OS_ERR_NAME_NOT_FOUND;
