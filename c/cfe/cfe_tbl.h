@@ -55,20 +55,38 @@ CFE_Status_t CFE_TBL_Register(CFE_TBL_Handle_t *TblHandlePtr, const char *Name, 
 CFE_Status_t CFE_TBL_Share(CFE_TBL_Handle_t *TblHandlePtr, const char *TblName);
 CFE_Status_t CFE_TBL_Unregister(CFE_TBL_Handle_t TblHandle);
 
-/* Loads the whole table from an address, or what a table file has: validated and updated at once.
+/*
+ * Loads the whole table from an address, or what a table file has: validated and updated at once.
+ * If a handle holds the table, CFE_TBL_INFO_TABLE_LOCKED: the update waits for CFE_TBL_Manage.
  */
 CFE_Status_t CFE_TBL_Load(CFE_TBL_Handle_t TblHandle, CFE_TBL_SrcEnum_t SrcType,
                           const void *SrcDataPtr);
 
-/* What fsw_stage_table staged is validated, then becomes the table's. Manage does both. */
+/*
+ * What a ground command or fsw_stage_table loaded is validated, then becomes the table's. Manage
+ * does what is pending. An event says what a validation found.
+ */
 CFE_Status_t CFE_TBL_Validate(CFE_TBL_Handle_t TblHandle);
 CFE_Status_t CFE_TBL_Update(CFE_TBL_Handle_t TblHandle);
 CFE_Status_t CFE_TBL_Manage(CFE_TBL_Handle_t TblHandle);
 CFE_Status_t CFE_TBL_GetStatus(CFE_TBL_Handle_t TblHandle);
 
-/* The bytes may be read until they are released, and aren't to be written. */
+/* Answers as CFE_TBL_GetStatus: there is no dump to a file, so none is pending. */
+CFE_Status_t CFE_TBL_DumpToBuffer(CFE_TBL_Handle_t TblHandle);
+
+/*
+ * The bytes may be read until they are released. The table's owner may also write there: other
+ * applications see that at once in a dump-only table, and after CFE_TBL_Modified in another.
+ */
 CFE_Status_t CFE_TBL_GetAddress(void **TblPtr, CFE_TBL_Handle_t TblHandle);
 CFE_Status_t CFE_TBL_ReleaseAddress(CFE_TBL_Handle_t TblHandle);
+
+/*
+ * The owner wrote the table's bytes: they are its next version, without a validation. If another
+ * handle holds the table, CFE_TBL_INFO_TABLE_LOCKED: that waits for CFE_TBL_Manage.
+ */
+CFE_Status_t CFE_TBL_Modified(CFE_TBL_Handle_t TblHandle);
+
 CFE_Status_t CFE_TBL_GetAddresses(void **TblPtrs[], uint16 NumTables,
                                   const CFE_TBL_Handle_t TblHandles[]);
 CFE_Status_t CFE_TBL_ReleaseAddresses(uint16 NumTables, const CFE_TBL_Handle_t TblHandles[]);

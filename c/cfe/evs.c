@@ -182,6 +182,19 @@ CFE_Status_t fsw_leave_telling(struct fsw_asked asked, uint32_t status)
     return fsw_status(status, CFE_SB_BAD_ARGUMENT);
 }
 
+/* ---- Events of the layer's services ---- */
+
+void fsw_send_service_event(const char *service, uint16 id, uint16 type, const char *text)
+{
+    fsw_resume();
+    struct fsw_config config = fsw_layer.config;
+    if (config.sends_events)
+        send_packet(fsw_self->app, service, id, type, text);
+    fsw_leave_bus((struct fsw_asked){"", 0, 0}, FSW_SUCCESS);
+    if (config.prints_events)
+        print_event(&config, service, id, text);
+}
+
 /* ---- The applications' events ---- */
 
 CFE_Status_t CFE_EVS_SendEvent(uint16 EventID, uint16 EventType, const char *Spec, ...)

@@ -33,9 +33,15 @@ struct fsw_config {
     bool all_bus_events; /* the bus's own are not filtered */
     uint32_t spacecraft;
     uint32_t processor;
-    /* Stands before the names of table files: with "." /cf/x.tbl is ./cf/x.tbl, as by cFE's OS
-     * layer on POSIX. Null: nothing. It stays where it is while the program runs. */
+    /* The folder that the names of table files begin at: with "." /cf/x.tbl is ./cf/x.tbl, as by
+     * cFE's OS layer on POSIX. No name leads out of it: `..` and links are refused. Null: names are
+     * the system's. It stays where it is while the program runs. */
     const char *file_root;
+    /* Memory for the layer's copies of tables, at a multiple of 8: twice the size of each table,
+     * the size of a dump-only one, each size rounded up to a multiple of 16; and 16 bytes more.
+     * Null: CFE_TBL_Register takes what it needs from malloc. */
+    void *table_memory;
+    size_t table_memory_size;
     /*
      * Starts a thread that calls `entry` once; 0 if there will be one. Null: the layer starts its
      * threads itself. With cFE's OS layer it calls OS_TaskCreate. It makes no call of the layer.

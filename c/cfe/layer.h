@@ -74,8 +74,21 @@ struct pool {
     uint32_t free[BLOCK_SIZES]; /* the first free block of each size, as its offset; 0: none */
 };
 
-/* What fsw_stage_table staged waits for this. */
-enum pending { NOTHING_PENDING, VALIDATION_PENDING, UPDATE_PENDING };
+/* How far the load of a table has come that waits. */
+enum load_state {
+    NO_LOAD,
+    LOADED, /* by a ground command, which asked for nothing more */
+    VALIDATION_PENDING,
+    VALIDATED,
+    UPDATE_PENDING
+};
+
+/* Where the bytes of a table are from. */
+struct source {
+    char name[CFE_MISSION_MAX_PATH_LEN]; /* a file, or an address */
+    uint32 seconds;                      /* the file's time */
+    uint32 subseconds;
+};
 
 struct table {
     char name[CFE_TBL_MAX_FULL_NAME_LEN]; /* the full name */
@@ -83,10 +96,19 @@ struct table {
     uint32_t owner;                       /* the owner's handle in the core; 0 if it gave it back */
     uint32_t loader;                      /* the handle by which it is loaded just now, or 0 */
     const struct task *loading;           /* the task that does so */
-    enum pending pending;
+    enum load_state state;
+    bool is_commanded; /* a ground command leads the load */
+    bool is_change;    /* what is staged is the owner's change of the bytes in place */
     CFE_TBL_CallbackFuncPtr_t validate;
-    uint8_t *image;      /* room for a table file, and for the copy that is validated */
-    uint32_t staged_crc; /* of what was validated last */
+    struct source source; /* of what is staged */
+    uint32_t staged_crc;  /* of what was validated last */
+    uint8_t *memory;      /* for the image and the copy */
+    size_t memory_size;
+    struct table *next; /* whose memory lies behind, in that which fsw_configure gave */
+    uint8_t *image;     /* room for what is read and validated; null of a dump-only table */
+    uint8_t *copy;      /* where the owner writes: a dump-only table, or a copy of another */
+    uint64_t copied;    /* the version that the copy is of */
+    uint64_t changes;   /* of a dump-only table: how often its owner said that it changed */
     CFE_TBL_Info_t info;
 };
 
@@ -94,6 +116,8 @@ struct handle {
     uint32_t number; /* the core's; 0 while there is none */
     struct app *app;
     struct table *table;
+    uint64_t told; /* the version that its application knows of */
+    bool has_address;
 };
 
 struct layer {
@@ -120,6 +144,7 @@ struct layer {
     struct fsw_buffer *buffer; /* limits.buffers for each application */
     struct pool pool[MOST_POOLS];
     struct table table[MOST_TABLES];
+    struct table *first_table; /* whose memory lies first in that which fsw_configure gave */
     struct handle handle[MOST_HANDLES];
 };
 
@@ -263,5 +288,11 @@ void fsw_retire_pools(const struct app *app);
 
 /* Drops what a task loads, if it ends within a validation function. */
 void fsw_end_loads(const struct task *task);
+
+/*
+ * Sends and prints an event of a service of the layer's own, where the configuration asks. The
+ * caller's task is an application's, and hasn't the mutex.
+ */
+void fsw_send_service_event(const char *service, uint16 id, uint16 type, const char *text);
 
 #endif

@@ -6,13 +6,13 @@ CFE_HEADERS = $(wildcard cfe/*.h)
 CFE = $(BUILD)/libfsw_osal.a $(BUILD)/libfsw_cfe.a $(CORE)
 
 INCLUDES += -Icfe
-HEADERS += $(CFE_HEADERS)
+HEADERS += $(CFE_HEADERS) $(wildcard cfe/test/*.h)
 LIBRARIES += $(BUILD)/libfsw_cfe.a
-INSTALLED_HEADERS += $(filter-out cfe/layer.h,$(CFE_HEADERS))
+INSTALLED_HEADERS += $(filter-out cfe/layer.h cfe/layer_tbl.h,$(CFE_HEADERS))
 INSTALLED_PACKAGES += cfe/fsw_cfe
 ANALYZED += $(CFE_SOURCES) bench/layer_cost.c
 BENCHES += $(BUILD)/layer_cost
-TESTS += $(addprefix $(BUILD)/,layer_test layer_test.address layer_test.thread priority_test faults_test faults_test.address faults_test.thread threads_test threads_test.thread soak_test)
+TESTS += $(addprefix $(BUILD)/,layer_test layer_test.address layer_test.thread tables_test tables_test.address tables_test.thread priority_test faults_test faults_test.address faults_test.thread threads_test threads_test.thread soak_test)
 
 # C++ is tried where it is installed.
 TESTS += $(if $(shell command -v g++),$(BUILD)/cpp_test)

@@ -238,6 +238,7 @@ static bool open_layer(const struct fsw_limits *limits)
     layer->events_seen = 0;
     layer->requests = 0;
     layer->asleep = NULL;
+    layer->first_table = NULL;
     layer->starting = NULL;
     layer->has_started = false;
     layer->limits = *limits;

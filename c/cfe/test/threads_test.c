@@ -185,7 +185,7 @@ static void use_table(struct mine *mine)
         CFE_TBL_GetInfo(&info, name);
         return;
     }
-    switch (draw(mine, 7)) {
+    switch (draw(mine, 8)) {
     case 0:
         if (mine->has_shared)
             CFE_TBL_Unregister(mine->shared);
@@ -203,6 +203,13 @@ static void use_table(struct mine *mine)
         CFE_TBL_Manage(handle);
         CFE_TBL_Validate(handle);
         CFE_TBL_Update(handle);
+        break;
+    case 4:
+        CFE_TBL_GetAddress(&at, mine->own);
+        CHECK(at);
+        fill(((struct table *)at)->words, 16, mine->random);
+        CFE_TBL_Modified(mine->own);
+        CFE_TBL_ReleaseAddress(mine->own);
         break;
     default:
         CFE_TBL_GetAddress(&at, handle);
