@@ -4,6 +4,7 @@
 
 #include "cfe_mission_cfg.h"
 #include "cfe_msg.h"
+#include "cfe_sb_extern_typedefs.h"
 
 #ifdef __cplusplus
 extern "C" {
@@ -13,11 +14,11 @@ extern "C" {
 #define CFE_SB_PEND_FOREVER        (-1)
 #define CFE_SB_PIPEOPTS_IGNOREMINE 0x01 /* the pipe misses what its owner sends */
 
-typedef uint32 CFE_SB_PipeId_t;
 #define CFE_SB_INVALID_PIPE            ((CFE_SB_PipeId_t)0)
 #define CFE_SB_PIPEID_C(val)           ((CFE_SB_PipeId_t)(val))
 #define CFE_SB_MSGID_C(val)            ((CFE_SB_MsgId_t)(val))
 #define CFE_SB_INVALID_MSG_ID          CFE_SB_MSGID_C(-1)
+#define CFE_SB_MSGID_RESERVED          CFE_SB_MSGID_C(0) /* no message has it */
 #define CFE_SB_MSGID_WRAP_VALUE(val)   ((CFE_SB_MsgId_t)(val))
 #define CFE_SB_MSGID_UNWRAP_VALUE(mid) ((CFE_SB_MsgId_Atom_t)(mid))
 
@@ -29,10 +30,6 @@ typedef union CFE_SB_Msg {
 } CFE_SB_Buffer_t;
 
 /* Accepted, and without an effect, as in cFE. */
-typedef struct CFE_SB_Qos {
-    uint8 Priority;
-    uint8 Reliability;
-} CFE_SB_Qos_t;
 #define CFE_SB_DEFAULT_QOS ((CFE_SB_Qos_t){0, 0})
 
 static inline bool CFE_SB_MsgId_Equal(CFE_SB_MsgId_t MsgId1, CFE_SB_MsgId_t MsgId2)
@@ -64,6 +61,9 @@ CFE_Status_t CFE_SB_GetPipeOpts(CFE_SB_PipeId_t PipeId, uint8 *OptsPtr);
 CFE_Status_t CFE_SB_GetPipeName(char *PipeNameBuf, size_t PipeNameSize, CFE_SB_PipeId_t PipeId);
 CFE_Status_t CFE_SB_GetPipeIdByName(CFE_SB_PipeId_t *PipeIdPtr, const char *PipeName);
 
+/* A place for a table by pipes: below limits.pipes, unless tasks wait on pipes just deleted. */
+CFE_Status_t CFE_SB_PipeId_ToIndex(CFE_SB_PipeId_t PipeID, uint32 *Idx);
+
 /* Subscriptions. Without a limit at most CFE_PLATFORM_SB_DEFAULT_MSG_LIMIT messages wait. */
 CFE_Status_t CFE_SB_Subscribe(CFE_SB_MsgId_t MsgId, CFE_SB_PipeId_t PipeId);
 CFE_Status_t CFE_SB_SubscribeEx(CFE_SB_MsgId_t MsgId, CFE_SB_PipeId_t PipeId, CFE_SB_Qos_t Quality,
@@ -94,6 +94,9 @@ CFE_Status_t CFE_SB_ReleaseMessageBuffer(CFE_SB_Buffer_t *BufPtr);
 void CFE_SB_TimeStampMsg(CFE_MSG_Message_t *MsgPtr);
 void *CFE_SB_GetUserData(CFE_MSG_Message_t *MsgPtr);
 size_t CFE_SB_GetUserDataLength(const CFE_MSG_Message_t *MsgPtr);
+
+/* Has no effect if the message would be longer than CFE_MISSION_SB_MAX_SB_MSG_SIZE. */
+void CFE_SB_SetUserDataLength(CFE_MSG_Message_t *MsgPtr, size_t DataLength);
 
 /*
  * Copies the text of a message's field, which may have no zero byte, into a string that has one;

@@ -12,6 +12,13 @@
 #define CFE_SB_MSGID_LIM_ERR_EID 17 /* the subscription's limit kept the message from a pipe */
 #define CFE_SB_Q_FULL_ERR_EID    25 /* a full pipe missed the message */
 
+/* What became of a command to the bus. */
+#define CFE_SB_CMD0_RCVD_EID    28 /* no operation */
+#define CFE_SB_CMD1_RCVD_EID    29 /* the counters were reset */
+#define CFE_SB_SND_STATS_EID    32 /* the statistics packet was sent; a DEBUG event in cFE */
+#define CFE_SB_BAD_CMD_CODE_EID 42
+#define CFE_SB_LEN_ERR_EID      62
+
 /* Not cFE's: a full pipe dropped its oldest message for the new one (limits.version 2). */
 #define FSW_SB_OLDEST_INF_EID 100
 

@@ -49,7 +49,7 @@ struct fsw_config {
     int (*start_task)(const char *name, void (*entry)(void), size_t stack_size, uint8_t priority);
 };
 
-/* Says this before fsw_run; it stays. */
+/* Says this before fsw_run; it stays. During a run it has no effect. */
 void fsw_configure(const struct fsw_config *config);
 
 /*

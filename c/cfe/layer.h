@@ -61,6 +61,7 @@ struct task {
 
 struct pipe {
     uint32_t number; /* the core's; 0 while there is none */
+    uint32_t depth;
     uint32_t sleepers;
     pthread_cond_t arrived;
     struct pipe *next_asleep; /* the next pipe that has sleepers */
@@ -132,9 +133,12 @@ struct layer {
     atomic_int_least64_t began; /* when the run did, in ns: read without the mutex */
     struct fsw_core core;
     struct fsw_limits limits;
-    struct fsw_config config;
+    struct fsw_config config; /* it stays as it is during a run, but for what ground commands set */
     uint32_t events_seen; /* events that the core had logged when the last of the bus was told */
-    uint32_t requests;    /* for the housekeeping packet, that no pipe got */
+    uint32_t requests;    /* messages to services that no pipe got, since the counters' reset */
+    struct fsw_counters bus_counters; /* the bus's, when they were reset */
+    uint8_t bus_commands;
+    uint8_t bus_command_errors;
     uint16_t bus_events[BUS_EVENTS + 1]; /* how many of each kind there were, at most 65535 */
     uint32_t apps;
     struct app app[MOST_APPS];
@@ -251,6 +255,30 @@ static inline void fsw_wake(const struct fsw_sent *sent)
 
 /* Sends telemetry of the layer's own, with the present time, as a message of the application's. */
 void fsw_send_own(const struct app *app, CFE_MSG_TelemetryHeader_t *packet, size_t size);
+
+/* A message to a service: whole, or of one that is longer its header alone. */
+struct fsw_command {
+    size_t size; /* as its header says */
+    union {
+        CFE_MSG_Message_t message;
+        uint8_t bytes[128];
+        uint64_t alignment;
+    };
+};
+
+/* Does what a message asks of the service that its id names. The caller hasn't the mutex. */
+void fsw_serve(const struct fsw_command *command);
+
+/* What services do with theirs. */
+void fsw_serve_bus(const struct fsw_command *command);
+void fsw_send_bus_housekeeping(const struct fsw_command *command);
+
+/* The function code; UINT8_MAX if the message is no command. */
+uint32_t fsw_code_of(const struct fsw_command *command);
+
+/* Sends and prints an event of a service's, where the configuration asks. */
+void fsw_reply(const char *service, uint16 id, uint16 type, const char *format, ...)
+    OS_PRINTF(4, 5);
 
 /* A call of the bus, if cFE tells by an event that it was refused. */
 struct fsw_asked {

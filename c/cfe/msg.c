@@ -13,7 +13,9 @@ enum {
     MOST_SIZE = 65542,
     TYPE_BIT = 0x10,
     SECONDARY_BIT = 0x08,
-    APID_BITS = 0x7ff
+    APID_BITS = 0x7ff,
+    MOST_VERSION = 7,
+    VERSION_REST = 0x1f /* the bits of the first byte that aren't the version's */
 };
 
 static bool is_command(const CFE_MSG_Message_t *message)
@@ -107,6 +109,14 @@ CFE_Status_t CFE_MSG_GetHeaderVersion(const CFE_MSG_Message_t *MsgPtr,
     if (!MsgPtr || !Version)
         return CFE_MSG_BAD_ARGUMENT;
     *Version = MsgPtr->Byte[0] >> 5;
+    return CFE_SUCCESS;
+}
+
+CFE_Status_t CFE_MSG_SetHeaderVersion(CFE_MSG_Message_t *MsgPtr, CFE_MSG_HeaderVersion_t Version)
+{
+    if (!MsgPtr || Version > MOST_VERSION)
+        return CFE_MSG_BAD_ARGUMENT;
+    MsgPtr->Byte[0] = (uint8)((MsgPtr->Byte[0] & VERSION_REST) | Version << 5);
     return CFE_SUCCESS;
 }
 
@@ -303,6 +313,15 @@ size_t CFE_SB_GetUserDataLength(const CFE_MSG_Message_t *MsgPtr)
     if (!MsgPtr || size_of(MsgPtr) < headers_of(MsgPtr))
         return 0;
     return size_of(MsgPtr) - headers_of(MsgPtr);
+}
+
+void CFE_SB_SetUserDataLength(CFE_MSG_Message_t *MsgPtr, size_t DataLength)
+{
+    if (!MsgPtr || DataLength > CFE_MISSION_SB_MAX_SB_MSG_SIZE)
+        return;
+    size_t size = headers_of(MsgPtr) + DataLength;
+    if (size <= CFE_MISSION_SB_MAX_SB_MSG_SIZE)
+        CFE_MSG_SetSize(MsgPtr, size);
 }
 
 int32 CFE_SB_MessageStringGet(char *DestStringPtr, const char *SourceStringPtr,

@@ -160,7 +160,8 @@ void fsw_configure(const struct fsw_config *config)
         return;
     fsw_prepare();
     fsw_resume();
-    fsw_layer.config = *config;
+    if (!fsw_layer.is_running)
+        fsw_layer.config = *config;
     fsw_leave();
 }
 
@@ -237,6 +238,8 @@ static bool open_layer(const struct fsw_limits *limits)
     memset(layer->bus_events, 0, sizeof layer->bus_events);
     layer->events_seen = 0;
     layer->requests = 0;
+    memset(&layer->bus_counters, 0, sizeof layer->bus_counters);
+    layer->bus_commands = layer->bus_command_errors = 0;
     layer->asleep = NULL;
     layer->first_table = NULL;
     layer->starting = NULL;

@@ -1,13 +1,14 @@
 /* sb.c: the Software Bus in cFE's names. */
-#include "cfe_msgids.h"
 #include "cfe_sb_events.h"
-#include "cfe_sb_msg.h"
 #include "layer.h"
 
 #include <errno.h>
 #include <string.h>
 
 enum { CORE_NAME = 19 };
+
+/* The first two bytes of the ids that services have: 0x1800 to 0x180f. */
+enum { SERVICES_FIRST_BYTE = 0x18, SERVICES_LAST_BYTE = 0x0f };
 
 /* ---- Pipes ---- */
 
@@ -37,8 +38,10 @@ static uint32_t create_pipe(const struct app *app, uint32_t depth, const char *n
         return FSW_SB_MAX_PIPES_MET;
     uint32_t status =
         fsw_create_pipe(&fsw_layer.core, app->number, depth, name, strlen(name), number);
-    if (status == FSW_SUCCESS)
+    if (status == FSW_SUCCESS) {
         pipe->number = *number;
+        pipe->depth = depth;
+    }
     return status;
 }
 
@@ -71,6 +74,19 @@ CFE_Status_t CFE_SB_DeletePipe(CFE_SB_PipeId_t PipeId)
         fsw_must(pthread_cond_broadcast(&pipe->arrived));
     }
     return fsw_leave_with(status, CFE_SB_BAD_ARGUMENT);
+}
+
+CFE_Status_t CFE_SB_PipeId_ToIndex(CFE_SB_PipeId_t PipeID, uint32 *Idx)
+{
+    if (!Idx)
+        return CFE_SB_BAD_ARGUMENT;
+    if (!fsw_enter())
+        return CFE_SB_BAD_ARGUMENT;
+    const struct pipe *pipe = PipeID ? pipe_numbered(PipeID) : NULL;
+    if (pipe)
+        *Idx = (uint32)(pipe - fsw_layer.pipe);
+    fsw_leave();
+    return pipe ? CFE_SUCCESS : CFE_ES_ERR_RESOURCEID_NOT_VALID;
 }
 
 CFE_Status_t CFE_SB_SetPipeOpts(CFE_SB_PipeId_t PipeId, uint8 Opts)
@@ -206,49 +222,12 @@ static bool is_counted(const CFE_MSG_Message_t *message, bool is_asked)
     return is_asked && !(message->Byte[0] & 0x10);
 }
 
-/* Whether a message asks for the bus's housekeeping packet. */
-static inline bool is_request(const CFE_MSG_Message_t *message)
-{
-    return (message->Byte[0] << 8 | message->Byte[1]) == CFE_SB_SEND_HK_MID;
-}
-
 void fsw_send_own(const struct app *app, CFE_MSG_TelemetryHeader_t *packet, size_t size)
 {
     struct fsw_sent sent;
     CFE_SB_TimeStampMsg(&packet->Msg);
     if (fsw_transmit(&fsw_layer.core, app->number, packet, size, true, &sent) == FSW_SUCCESS)
         fsw_wake(&sent);
-}
-
-/* Answers the caller's request by the housekeeping packet. */
-FSW_SELDOM static void send_housekeeping(const struct fsw_sent *request)
-{
-    CFE_SB_HousekeepingTlm_t packet;
-    struct fsw_counters counts;
-    struct fsw_use now, peak;
-    /* In cFE the bus subscribes to it: that no pipe got it isn't counted, and is no event. */
-    if (request->number == 0) {
-        fsw_layer.requests++;
-        fsw_layer.events_seen++;
-    }
-    CFE_MSG_Init(CFE_MSG_PTR(packet.TelemetryHeader), CFE_SB_HK_TLM_MID, sizeof packet);
-    fsw_counters(&fsw_layer.core, &counts);
-    fsw_use(&fsw_layer.core, &now, &peak);
-    packet.Payload = (CFE_SB_HousekeepingTlm_Payload_t){
-        .NoSubscribersCounter = (uint8)(counts.nosub - fsw_layer.requests),
-        .MsgSendErrorCounter = (uint8)counts.send,
-        .MsgReceiveErrorCounter = (uint8)counts.recv,
-        .CreatePipeErrorCounter = (uint8)counts.create,
-        .SubscribeErrorCounter = (uint8)counts.sub,
-        .PipeOptsErrorCounter = (uint8)counts.opts,
-        .DuplicateSubscriptionsCounter = (uint8)counts.dup,
-        .GetPipeIdByNameErrorCounter = (uint8)counts.find,
-        .PipeOverflowErrorCounter = (uint16)counts.overflow,
-        .MsgLimitErrorCounter = (uint16)counts.limit,
-        .MemInUse = now.bytes,
-        .UnmarkedMem = fsw_layer.limits.pool - peak.bytes,
-    };
-    fsw_send_own(fsw_self->app, &packet.TelemetryHeader, sizeof packet);
 }
 
 FSW_SELDOM static CFE_Status_t leave_send_telling(const CFE_MSG_Message_t *message, uint32_t status)
@@ -266,12 +245,34 @@ static inline CFE_Status_t leave_send(const CFE_MSG_Message_t *message, uint32_t
                               : fsw_leave_with(status, CFE_SB_BAD_ARGUMENT);
 }
 
-/* Does what follows on an accepted send. */
-static inline void follow(const struct fsw_sent *sent, bool is_asking)
+/* Whether a message is for a service of the layer's, by its id. */
+static inline bool is_for_service(const CFE_MSG_Message_t *message)
 {
-    if (is_asking)
-        send_housekeeping(sent);
-    fsw_wake(sent);
+    return message->Byte[0] == SERVICES_FIRST_BYTE && message->Byte[1] <= SERVICES_LAST_BYTE;
+}
+
+/* Keeps a message for a service; of one that is longer than any command, its length alone. */
+static void keep_command(struct fsw_command *command, const CFE_MSG_Message_t *message)
+{
+    command->size = length_of(message);
+    memcpy(command->bytes, message,
+           command->size <= sizeof command->bytes ? command->size : sizeof *message);
+}
+
+/* Ends an accepted send of a command to a service, which does it before the call ends. */
+FSW_SELDOM static CFE_Status_t leave_to_service(const struct fsw_sent *sent,
+                                                const CFE_MSG_Message_t *message)
+{
+    struct fsw_command command;
+    keep_command(&command, message);
+    /* In cFE the service subscribes to it: that no pipe got it isn't counted, and is no event. */
+    if (sent->number == 0) {
+        fsw_layer.requests++;
+        fsw_layer.events_seen++;
+    }
+    CFE_Status_t status = leave_send(message, FSW_SUCCESS);
+    fsw_serve(&command);
+    return status;
 }
 
 CFE_Status_t CFE_SB_TransmitMsg(const CFE_MSG_Message_t *MsgPtr, bool IncrementSequenceCount)
@@ -285,7 +286,9 @@ CFE_Status_t CFE_SB_TransmitMsg(const CFE_MSG_Message_t *MsgPtr, bool IncrementS
     uint32_t status = fsw_transmit(&fsw_layer.core, app->number, MsgPtr, length_of(MsgPtr),
                                    is_counted(MsgPtr, IncrementSequenceCount), &sent);
     if (status == FSW_SUCCESS)
-        follow(&sent, is_request(MsgPtr));
+        fsw_wake(&sent);
+    if (status == FSW_SUCCESS && is_for_service(MsgPtr))
+        return leave_to_service(&sent, MsgPtr);
     return leave_send(MsgPtr, status);
 }
 
@@ -405,6 +408,19 @@ CFE_SB_Buffer_t *CFE_SB_AllocateMessageBuffer(size_t MsgSize)
     return at;
 }
 
+/* Sends a command to a service from a buffer, of whose bytes nothing is left behind the send. */
+FSW_SELDOM static CFE_Status_t transmit_command(const struct app *app, struct fsw_buffer *buffer)
+{
+    struct fsw_command command;
+    struct fsw_sent sent;
+    keep_command(&command, (const CFE_MSG_Message_t *)buffer->at);
+    uint32_t status = fsw_transmit_buffer(&fsw_layer.core, app->number, buffer, false, &sent);
+    if (status != FSW_SUCCESS)
+        return leave_send(&command.message, status);
+    fsw_wake(&sent);
+    return leave_to_service(&sent, &command.message);
+}
+
 CFE_Status_t CFE_SB_TransmitBuffer(CFE_SB_Buffer_t *BufPtr, bool IncrementSequenceCount)
 {
     struct fsw_sent sent;
@@ -415,11 +431,12 @@ CFE_Status_t CFE_SB_TransmitBuffer(CFE_SB_Buffer_t *BufPtr, bool IncrementSequen
         return CFE_SB_BAD_ARGUMENT;
     struct fsw_buffer *buffer = buffer_at(app, BufPtr);
     bool counts = buffer && is_counted(&BufPtr->Msg, IncrementSequenceCount);
-    bool is_asking = buffer && is_request(&BufPtr->Msg);
+    if (buffer && is_for_service(&BufPtr->Msg))
+        return transmit_command(app, buffer);
     uint32_t status = fsw_transmit_buffer(&fsw_layer.core, app->number,
                                           buffer ? buffer : &no_buffer, counts, &sent);
     if (status == FSW_SUCCESS)
-        follow(&sent, is_asking);
+        fsw_wake(&sent);
     /* What was sent is the bus's. */
     return leave_send(status != FSW_SUCCESS && buffer ? &BufPtr->Msg : NULL, status);
 }

@@ -15,7 +15,7 @@
 #include <string.h>
 #include <unistd.h>
 
-enum { TLM_ID = 0x0801, OTHER_ID = 0x0802, CMD_ID = 0x1801 };
+enum { TLM_ID = 0x0881, OTHER_ID = 0x0882, CMD_ID = 0x1881 };
 
 static const char *folder = ".";
 
@@ -93,7 +93,7 @@ static void check_fields(void)
     CHECK_STATUS(CFE_MSG_GetType(msg, &type), CFE_SUCCESS);
     CHECK(type == CFE_MSG_Type_Tlm);
     CHECK_STATUS(CFE_MSG_GetApId(msg, &apid), CFE_SUCCESS);
-    CHECK(apid == 1);
+    CHECK(apid == 0x81);
     CHECK_STATUS(CFE_MSG_GetHeaderVersion(msg, &version), CFE_SUCCESS);
     CHECK(version == 0);
     CHECK_STATUS(CFE_MSG_GetHasSecondaryHeader(msg, &is), CFE_SUCCESS);
@@ -727,11 +727,11 @@ static void check_refusal_events(CFE_SB_PipeId_t events, CFE_SB_PipeId_t pipe)
                      "Subscribe id 0x2000 refused 0xca000003 app FIRST", 0);
     CHECK_STATUS(CFE_SB_Unsubscribe(TLM_ID, 99), CFE_SB_BAD_ARGUMENT);
     expect_bus_event(events, CFE_SB_UNSUB_ARG_ERR_EID, error,
-                     "Unsubscribe id 0x0801 refused 0xca000003 app FIRST", 0);
+                     "Unsubscribe id 0x0881 refused 0xca000003 app FIRST", 0);
     CHECK_STATUS(CFE_MSG_Init(message, TLM_ID, sizeof large), CFE_SUCCESS);
     CHECK_STATUS(CFE_SB_TransmitMsg(message, true), CFE_SB_MSG_TOO_BIG);
     expect_bus_event(events, CFE_SB_MSG_TOO_BIG_EID, error,
-                     "Transmit id 0x0801 refused 0xca000007 app FIRST", 0);
+                     "Transmit id 0x0881 refused 0xca000007 app FIRST", 0);
     CHECK_STATUS(CFE_SB_TransmitBuffer(&large.buffer, true), CFE_SB_BUFFER_INVALID);
     expect_bus_event(events, CFE_SB_SEND_BAD_ARG_EID, error,
                      "Transmit refused 0xca00000e app FIRST", 0);
@@ -743,7 +743,7 @@ static void check_refusal_events(CFE_SB_PipeId_t events, CFE_SB_PipeId_t pipe)
 static void test_bus_events(void)
 {
     static const uint16 info = CFE_EVS_EventType_INFORMATION, error = CFE_EVS_EventType_ERROR;
-    static const char full[] = "overflow id 0x0801 pipe %u sender 1";
+    static const char full[] = "overflow id 0x0881 pipe %u sender 1";
     CFE_SB_PipeId_t events, pipe = pipe_for("SMALL", TLM_ID);
     CFE_SB_Buffer_t *buffer;
     /* The first packets have no subscriber: what the bus says of them is not sent, or none ends. */
@@ -752,20 +752,20 @@ static void test_bus_events(void)
     CHECK_STATUS(CFE_SB_SubscribeEx(CFE_EVS_LONG_EVENT_MSG_MID, events, CFE_SB_DEFAULT_QOS, 64),
                  CFE_SUCCESS);
     CHECK_STATUS(CFE_SB_Subscribe(TLM_ID, pipe), CFE_SUCCESS);
-    expect_bus_event(events, CFE_SB_DUP_SUBSCRIP_EID, info, "duplicate id 0x0801 pipe %u", pipe);
+    expect_bus_event(events, CFE_SB_DUP_SUBSCRIP_EID, info, "duplicate id 0x0881 pipe %u", pipe);
     CHECK_STATUS(CFE_SB_Unsubscribe(OTHER_ID, pipe), CFE_SUCCESS);
-    expect_bus_event(events, CFE_SB_UNSUB_NO_SUBS_EID, info, "not subscribed id 0x0802 pipe %u",
+    expect_bus_event(events, CFE_SB_UNSUB_NO_SUBS_EID, info, "not subscribed id 0x0882 pipe %u",
                      pipe);
     /* Of messages without a subscriber the first four are told. */
     for (uint32 i = 1; i < 6; i++) {
         CHECK_STATUS(send(OTHER_ID, i), CFE_SUCCESS);
         if (i < 4)
-            expect_bus_event(events, CFE_SB_SEND_NO_SUBS_EID, info, "no subscribers id 0x0802", 0);
+            expect_bus_event(events, CFE_SB_SEND_NO_SUBS_EID, info, "no subscribers id 0x0882", 0);
     }
     CHECK_STATUS(CFE_SB_SubscribeEx(OTHER_ID, pipe, CFE_SB_DEFAULT_QOS, 2), CFE_SUCCESS);
     for (uint32 i = 1; i <= 3; i++)
         CHECK_STATUS(send(OTHER_ID, i), CFE_SUCCESS);
-    expect_bus_event(events, CFE_SB_MSGID_LIM_ERR_EID, error, "limit id 0x0802 pipe %u sender 1",
+    expect_bus_event(events, CFE_SB_MSGID_LIM_ERR_EID, error, "limit id 0x0882 pipe %u sender 1",
                      pipe);
     /* Of messages that a full pipe missed the first sixteen. */
     for (uint32 i = 1; i <= 6 + 15; i++)
@@ -814,7 +814,7 @@ static void check_printed_events(void)
     FILE *file = fopen(path, "r");
     CHECK(answer == 0 && file);
     while (fgets(line, sizeof line, file) && lines < 20) {
-        CHECK(strcmp(line, "EVS Port1 66/1/CFE_SB 100: oldest id 0x0801 pipe 1 sender 1\n") == 0);
+        CHECK(strcmp(line, "EVS Port1 66/1/CFE_SB 100: oldest id 0x0881 pipe 1 sender 1\n") == 0);
         lines++;
     }
     CHECK(strcmp(line, "EVS Port1 66/1/FIRST 3: end of 28\n") == 0 &&

@@ -11,7 +11,7 @@
 #include <string.h>
 #include <unistd.h>
 
-enum { ID = 0x0801, MOST_GROWTH = 512 * 1024 };
+enum { ID = 0x0881, MOST_GROWTH = 512 * 1024 };
 
 static unsigned long messages = 600000;
 static CFE_ES_STATIC_POOL_TYPE(65536) memory;
