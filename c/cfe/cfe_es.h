@@ -82,8 +82,6 @@ CFE_Status_t CFE_ES_DeleteChildTask(CFE_ES_TaskId_t TaskId);
 void CFE_ES_ExitChildTask(void);
 
 /* The CRC that cFE uses by default, CRC-16 of the ARC kind. */
-#define CFE_MISSION_ES_CRC_16      2
-#define CFE_MISSION_ES_DEFAULT_CRC CFE_MISSION_ES_CRC_16
 uint32 CFE_ES_CalculateCRC(const void *DataPtr, size_t DataLength, uint32 InputCRC, uint32 TypeCRC);
 
 /* Memory pools over the caller's memory, which begins at a multiple of 8. */

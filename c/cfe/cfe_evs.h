@@ -61,6 +61,11 @@ typedef struct CFE_EVS_LongEventTlm {
 CFE_Status_t CFE_EVS_Register(const void *Filters, uint16 NumEventFilters, uint16 FilterScheme);
 CFE_Status_t CFE_EVS_SendEvent(uint16 EventID, uint16 EventType, const char *Spec, ...)
     OS_PRINTF(3, 4);
+/* With a time of the caller's in the packet; or by the name and the filters of any application. */
+CFE_Status_t CFE_EVS_SendTimedEvent(CFE_TIME_SysTime_t Time, uint16 EventID, uint16 EventType,
+                                    const char *Spec, ...) OS_PRINTF(4, 5);
+CFE_Status_t CFE_EVS_SendEventWithAppID(uint16 EventID, uint16 EventType, CFE_ES_AppId_t AppID,
+                                        const char *Spec, ...) OS_PRINTF(4, 5);
 CFE_Status_t CFE_EVS_ResetFilter(uint16 EventID);
 CFE_Status_t CFE_EVS_ResetAllFilters(void);
 

@@ -1,9 +1,23 @@
-/* cfe_platform_cfg.h: what cFE has per processor, and applications use. */
+/* cfe_platform_cfg.h: what cFE has per processor, and applications use: cFE's usual sizes. */
 #ifndef CFE_PLATFORM_CFG_H
 #define CFE_PLATFORM_CFG_H
 
-#define CFE_PLATFORM_EVS_MAX_EVENT_FILTERS  8
-#define CFE_PLATFORM_SB_DEFAULT_MSG_LIMIT   4
-#define CFE_PLATFORM_SB_HIGHEST_VALID_MSGID 0x1FFF
+#define CFE_PLATFORM_EVS_MAX_EVENT_FILTERS   8
+#define CFE_PLATFORM_EVS_DEFAULT_TYPE_FLAG   0xE /* the types that are on: all but DEBUG */
+#define CFE_PLATFORM_SB_DEFAULT_MSG_LIMIT    4
+#define CFE_PLATFORM_SB_HIGHEST_VALID_MSGID  0x1FFF
+#define CFE_PLATFORM_SB_MAX_MSG_IDS          256
+#define CFE_PLATFORM_SB_MAX_PIPES            64
+#define CFE_PLATFORM_SB_MAX_DEST_PER_PKT     16
+#define CFE_PLATFORM_SB_MAX_PIPE_DEPTH       256
+#define CFE_PLATFORM_SB_BUF_MEMORY_BYTES     524288
+#define CFE_PLATFORM_TBL_MAX_NUM_TABLES      128
+#define CFE_PLATFORM_TBL_MAX_NUM_HANDLES     256
+#define CFE_PLATFORM_TBL_MAX_SNGL_TABLE_SIZE 16384
+#define CFE_PLATFORM_TBL_MAX_DBL_TABLE_SIZE  16384
+#define CFE_PLATFORM_ES_MAX_APPLICATIONS     16
+#define CFE_PLATFORM_ES_MAX_GEN_COUNTERS     8
+#define CFE_PLATFORM_ES_DEFAULT_STACK_SIZE   8192
+#define CFE_PLATFORM_ES_PERF_MAX_IDS         128
 
 #endif

@@ -14,6 +14,20 @@ enum { MOST_LINE = 256 };
 
 /* ---- Applications ---- */
 
+struct app *fsw_app_numbered(CFE_ES_AppId_t number)
+{
+    bool is_live = 1 <= number && number <= fsw_layer.apps && !fsw_layer.app[number - 1].has_ended;
+    return is_live ? &fsw_layer.app[number - 1] : NULL;
+}
+
+struct app *fsw_app_named(const char *name)
+{
+    for (uint32_t i = 0; i < fsw_layer.apps; i++)
+        if (!fsw_layer.app[i].has_ended && strcmp(fsw_layer.app[i].name, name) == 0)
+            return &fsw_layer.app[i];
+    return NULL;
+}
+
 CFE_Status_t CFE_ES_GetAppID(CFE_ES_AppId_t *AppIdPtr)
 {
     if (!AppIdPtr)
@@ -29,20 +43,16 @@ CFE_Status_t CFE_ES_GetAppID(CFE_ES_AppId_t *AppIdPtr)
 
 CFE_Status_t CFE_ES_GetAppIDByName(CFE_ES_AppId_t *AppIdPtr, const char *AppName)
 {
-    CFE_Status_t status = CFE_ES_ERR_NAME_NOT_FOUND;
     if (!AppIdPtr || !AppName)
         return CFE_ES_BAD_ARGUMENT;
     *AppIdPtr = CFE_ES_APPID_UNDEFINED;
     if (!fsw_enter())
         return CFE_ES_ERR_NAME_NOT_FOUND;
-    for (uint32_t i = 0; i < fsw_layer.apps; i++) {
-        if (fsw_layer.app[i].has_ended || strcmp(fsw_layer.app[i].name, AppName) != 0)
-            continue;
-        *AppIdPtr = fsw_layer.app[i].number;
-        status = CFE_SUCCESS;
-    }
+    const struct app *app = fsw_app_named(AppName);
+    if (app)
+        *AppIdPtr = app->number;
     fsw_leave();
-    return status;
+    return app ? CFE_SUCCESS : CFE_ES_ERR_NAME_NOT_FOUND;
 }
 
 CFE_Status_t CFE_ES_GetAppName(char *AppName, CFE_ES_AppId_t AppId, size_t BufferLength)
@@ -53,8 +63,9 @@ CFE_Status_t CFE_ES_GetAppName(char *AppName, CFE_ES_AppId_t AppId, size_t Buffe
     AppName[0] = '\0';
     if (!fsw_enter())
         return status;
-    if (1 <= AppId && AppId <= fsw_layer.apps && !fsw_layer.app[AppId - 1].has_ended) {
-        snprintf(AppName, BufferLength, "%s", fsw_layer.app[AppId - 1].name);
+    const struct app *app = fsw_app_numbered(AppId);
+    if (app) {
+        snprintf(AppName, BufferLength, "%s", app->name);
         status = CFE_SUCCESS;
     }
     fsw_leave();

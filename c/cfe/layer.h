@@ -28,7 +28,15 @@ enum {
     MOST_HANDLES = 1024,
     MOST_FILTERS = CFE_PLATFORM_EVS_MAX_EVENT_FILTERS,
     BLOCK_SIZES = CFE_MISSION_ES_POOL_MAX_BUCKETS,
-    BUS_EVENTS = 6 /* kinds of events that the bus itself logs, numbered from 1 */
+    MOST_TEXT = 200, /* the bytes of an event's text that the core takes */
+    BUS_EVENTS = 6   /* kinds of events that the bus itself logs, numbered from 1 */
+};
+
+/* A filter of events. */
+struct filter {
+    uint16_t id;
+    uint16_t mask;
+    uint16_t seen; /* how many events it has seen since it was reset, at most 65535 */
 };
 
 struct app {
@@ -40,9 +48,13 @@ struct app {
     bool is_up;     /* it has reached its loop */
     bool is_ending; /* so are all its tasks */
     bool has_ended;
-    bool has_failed; /* it ended by an error */
+    bool has_failed;     /* it ended by an error */
+    bool is_registered;  /* for events */
+    bool sends_events;   /* unless a ground command turned them off */
+    uint8_t event_types; /* those that are on, a bit each, the lowest DEBUG's */
+    uint16_t events_sent;
     uint32_t filters;
-    uint16_t filter[MOST_FILTERS]; /* the ids that it registered filters for */
+    struct filter filter[MOST_FILTERS];
 };
 
 enum task_state { TASK_NONE, TASK_RUNS, TASK_DONE };
@@ -139,6 +151,11 @@ struct layer {
     struct fsw_counters bus_counters; /* the bus's, when they were reset */
     uint8_t bus_commands;
     uint8_t bus_command_errors;
+    struct fsw_event_counts event_counts; /* when they were reset */
+    uint8_t event_commands;
+    uint8_t event_command_errors;
+    uint16_t events_sent;                /* of applications, services and the bus; it wraps */
+    uint8_t unregistered_events;         /* events of applications that weren't registered */
     uint16_t bus_events[BUS_EVENTS + 1]; /* how many of each kind there were, at most 65535 */
     uint32_t apps;
     struct app app[MOST_APPS];
@@ -253,8 +270,38 @@ static inline void fsw_wake(const struct fsw_sent *sent)
         fsw_wake_sleepers();
 }
 
-/* Sends telemetry of the layer's own, with the present time, as a message of the application's. */
+/* Sends telemetry of the layer's own, with this or the present time, as an application's message.
+ */
+void fsw_send_at(const struct app *app, CFE_MSG_TelemetryHeader_t *packet, size_t size,
+                 CFE_TIME_SysTime_t time);
 void fsw_send_own(const struct app *app, CFE_MSG_TelemetryHeader_t *packet, size_t size);
+
+/* An event that goes out. */
+struct fsw_event {
+    const char *from;
+    uint16 id;
+    uint16 type;
+    CFE_TIME_SysTime_t time;
+    const char *text;
+};
+
+/* Sends its packet, as a message of the caller's application. The caller has the mutex. */
+void fsw_send_event_packet(const struct fsw_event *event);
+
+/* Prints its line, or what is given, if the reader isn't behind. The caller hasn't the mutex. */
+void fsw_print_event(const struct fsw_config *config, const struct fsw_event *event);
+void fsw_print_line(int file, const char *line);
+
+/* Sets the filters of an application, the first of each id, and their counts to 0. */
+uint32_t fsw_set_filters(struct app *app, const CFE_EVS_BinFilter_t *filters, uint32_t count);
+
+/* Resets a filter, or all. */
+uint32_t fsw_unlock_filter(struct app *app, uint16 id);
+uint32_t fsw_unlock_filters(struct app *app);
+
+/* A live application by its number, or by its name; or null. */
+struct app *fsw_app_numbered(CFE_ES_AppId_t number);
+struct app *fsw_app_named(const char *name);
 
 /* A message to a service: whole, or of one that is longer its header alone. */
 struct fsw_command {
@@ -272,6 +319,8 @@ void fsw_serve(const struct fsw_command *command);
 /* What services do with theirs. */
 void fsw_serve_bus(const struct fsw_command *command);
 void fsw_send_bus_housekeeping(const struct fsw_command *command);
+void fsw_serve_events(const struct fsw_command *command);
+void fsw_send_event_housekeeping(const struct fsw_command *command);
 
 /* The function code; UINT8_MAX if the message is no command. */
 uint32_t fsw_code_of(const struct fsw_command *command);

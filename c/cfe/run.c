@@ -240,6 +240,9 @@ static bool open_layer(const struct fsw_limits *limits)
     layer->requests = 0;
     memset(&layer->bus_counters, 0, sizeof layer->bus_counters);
     layer->bus_commands = layer->bus_command_errors = 0;
+    memset(&layer->event_counts, 0, sizeof layer->event_counts);
+    layer->events_sent = 0;
+    layer->event_commands = layer->event_command_errors = layer->unregistered_events = 0;
     layer->asleep = NULL;
     layer->first_table = NULL;
     layer->starting = NULL;

@@ -222,10 +222,11 @@ static bool is_counted(const CFE_MSG_Message_t *message, bool is_asked)
     return is_asked && !(message->Byte[0] & 0x10);
 }
 
-void fsw_send_own(const struct app *app, CFE_MSG_TelemetryHeader_t *packet, size_t size)
+void fsw_send_at(const struct app *app, CFE_MSG_TelemetryHeader_t *packet, size_t size,
+                 CFE_TIME_SysTime_t time)
 {
     struct fsw_sent sent;
-    CFE_SB_TimeStampMsg(&packet->Msg);
+    CFE_MSG_SetMsgTime(&packet->Msg, time);
     if (fsw_transmit(&fsw_layer.core, app->number, packet, size, true, &sent) == FSW_SUCCESS)
         fsw_wake(&sent);
 }
@@ -243,6 +244,11 @@ static inline CFE_Status_t leave_send(const CFE_MSG_Message_t *message, uint32_t
 {
     return fsw_tells_events() ? leave_send_telling(message, status)
                               : fsw_leave_with(status, CFE_SB_BAD_ARGUMENT);
+}
+
+void fsw_send_own(const struct app *app, CFE_MSG_TelemetryHeader_t *packet, size_t size)
+{
+    fsw_send_at(app, packet, size, CFE_TIME_GetTime());
 }
 
 /* Whether a message is for a service of the layer's, by its id. */

@@ -116,8 +116,10 @@ static void send_statistics(void)
 static void count_command(bool is_error)
 {
     fsw_resume();
-    fsw_layer.bus_commands += !is_error;
-    fsw_layer.bus_command_errors += is_error;
+    if (is_error)
+        fsw_layer.bus_command_errors++;
+    else
+        fsw_layer.bus_commands++;
     fsw_leave();
 }
 

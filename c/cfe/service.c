@@ -13,7 +13,10 @@
 static const struct {
     CFE_SB_MsgId_t id;
     void (*serve)(const struct fsw_command *command);
-} services[] = {{CFE_SB_CMD_MID, fsw_serve_bus}, {CFE_SB_SEND_HK_MID, fsw_send_bus_housekeeping}};
+} services[] = {{CFE_SB_CMD_MID, fsw_serve_bus},
+                {CFE_SB_SEND_HK_MID, fsw_send_bus_housekeeping},
+                {CFE_EVS_CMD_MID, fsw_serve_events},
+                {CFE_EVS_SEND_HK_MID, fsw_send_event_housekeeping}};
 
 void fsw_serve(const struct fsw_command *command)
 {

@@ -10,6 +10,7 @@
 #include "check.h"
 #include "fsw_run.h"
 
+#include <fcntl.h>
 #include <link.h>
 #include <pthread.h>
 #include <signal.h>
@@ -275,6 +276,53 @@ static void check_printed(void)
     CHECK(fclose(file) == 0 && unlink(path) == 0);
 }
 
+/* Nobody reads what is printed: the program goes on and ends, and says what is missing. */
+static void print_many(void)
+{
+    CHECK_STATUS(CFE_EVS_Register(NULL, 0, CFE_EVS_EventFilter_BINARY), CFE_SUCCESS);
+    for (int i = 0; i < 3000; i++)
+        CHECK_STATUS(CFE_EVS_SendInfo(1, "a line of some bytes, and its number %d", i),
+                     CFE_SUCCESS);
+    atomic_store(&phase, 1);
+    wait_for_phase(2);
+    CHECK_STATUS(CFE_EVS_SendInfo(1, "the last"), CFE_SUCCESS);
+}
+
+static int reader;
+
+/* Reads what is there by then. */
+static void read_late(void)
+{
+    static char text[1 << 20];
+    size_t length = 0;
+    ssize_t more = 1;
+    wait_for_phase(1);
+    while (more > 0 && length < sizeof text - 1) {
+        more = read(reader, text + length, sizeof text - 1 - length);
+        length += more > 0 ? (size_t)more : 0;
+    }
+    atomic_store(&phase, 2);
+    CHECK(length > 0 && text[length - 1] == '\n' && strstr(text, "its number 0\n"));
+}
+
+static void check_blocked(void)
+{
+    const struct fsw_config printing = {.prints_events = true}, usual = {.prints_events = false};
+    char text[200] = "";
+    int ends[2], out = dup(STDOUT_FILENO);
+    fflush(stdout);
+    CHECK(out >= 0 && pipe2(ends, O_NONBLOCK) == 0 && dup2(ends[1], STDOUT_FILENO) >= 0);
+    CHECK(fcntl(ends[1], F_SETFL, 0) == 0);
+    reader = ends[0];
+    fsw_configure(&printing);
+    int answer = run(print_many, read_late);
+    fsw_configure(&usual);
+    CHECK(dup2(out, STDOUT_FILENO) >= 0 && close(ends[1]) == 0 && answer == 0);
+    CHECK(read(reader, text, sizeof text - 1) > 0 && close(reader) == 0);
+    CHECK(strncmp(text, "fsw: ", 5) == 0);
+    CHECK(strstr(text, " lines weren't printed\nEVS Port1 0/0/FIRST 1: the last\n"));
+}
+
 int main(int argc, char **argv)
 {
     if (argc > 1)
@@ -288,6 +336,7 @@ int main(int argc, char **argv)
     check_delay();
     check_time();
     check_printed();
+    check_blocked();
     printf("faults_test passed\n");
     return 0;
 }

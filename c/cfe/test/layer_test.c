@@ -638,7 +638,7 @@ static void check_packet(CFE_SB_PipeId_t pipe)
     CHECK(packet.Payload.PacketID.EventType == CFE_EVS_EventType_ERROR);
     CHECK(packet.Payload.PacketID.ProcessorID == 1 && count_in(buffer) == 1);
     CHECK(strcmp(packet.Payload.Message, "seven 7 words") == 0);
-    CHECK_STATUS(CFE_EVS_SendEvent(8, CFE_EVS_EventType_DEBUG, "%s", text), CFE_SUCCESS);
+    CHECK_STATUS(CFE_EVS_SendEvent(8, CFE_EVS_EventType_INFORMATION, "%s", text), CFE_SUCCESS);
     CHECK_STATUS(CFE_SB_ReceiveBuffer(&buffer, pipe, CFE_SB_POLL), CFE_SUCCESS);
     memcpy(&packet, buffer, sizeof packet);
     CHECK(strlen(packet.Payload.Message) == 121 && packet.Payload.Message[120] == '$');
@@ -656,14 +656,12 @@ static void test_events(void)
                                                    {17, 0},
                                                    {18, CFE_EVS_FIRST_TWO_STOP},
                                                    {19, 0}};
-    static const CFE_EVS_BinFilter_t twice[2] = {{1, 0}, {1, 0}};
     CFE_SB_PipeId_t pipe = pipe_for("EVENTS", CFE_EVS_LONG_EVENT_MSG_MID);
     CHECK_STATUS(CFE_EVS_SendEvent(1, CFE_EVS_EventType_ERROR, "x"), CFE_EVS_APP_NOT_REGISTERED);
     CHECK_STATUS(CFE_EVS_ResetFilter(1), CFE_EVS_APP_NOT_REGISTERED);
     CHECK_STATUS(CFE_EVS_ResetAllFilters(), CFE_EVS_APP_NOT_REGISTERED);
     CHECK_STATUS(CFE_EVS_Register(filters, 2, 1), CFE_EVS_UNKNOWN_FILTER);
     CHECK_STATUS(CFE_EVS_Register(NULL, 2, CFE_EVS_EventFilter_BINARY), CFE_ES_BAD_ARGUMENT);
-    CHECK_STATUS(CFE_EVS_Register(twice, 2, CFE_EVS_EventFilter_BINARY), CFE_EVS_INVALID_PARAMETER);
     CHECK_STATUS(CFE_EVS_Register(NULL, 0, CFE_EVS_EventFilter_BINARY), CFE_SUCCESS);
     CHECK_STATUS(CFE_EVS_ResetAllFilters(), CFE_SUCCESS);
     CHECK_STATUS(CFE_EVS_Register(filters, 9, CFE_EVS_EventFilter_BINARY),

@@ -45,7 +45,7 @@ static void use_others(CFE_TBL_Handle_t table, CFE_ES_MemHandle_t pool, uint32 n
     CHECK_STATUS(CFE_TBL_ReleaseAddress(table), CFE_SUCCESS);
     CHECK(CFE_ES_GetPoolBuf(&block, pool, 100) == 100);
     CHECK(CFE_ES_PutPoolBuf(pool, block) == 100);
-    CHECK_STATUS(CFE_EVS_SendEvent(1, CFE_EVS_EventType_DEBUG, "number %u", (unsigned)number),
+    CHECK_STATUS(CFE_EVS_SendEvent(1, CFE_EVS_EventType_INFORMATION, "number %u", (unsigned)number),
                  CFE_SUCCESS);
     CHECK_STATUS(CFE_SB_CreatePipe(&pipe, 4, "PASSING"), CFE_SUCCESS);
     CHECK_STATUS(CFE_SB_Subscribe(ID, pipe), CFE_SUCCESS);
