@@ -392,7 +392,8 @@ CFE_Status_t CFE_TBL_Validate(CFE_TBL_Handle_t TblHandle)
         report_of("validation", CFE_TBL_VALIDATION_INF_EID, CFE_TBL_VALIDATION_ERR_EID, handle);
     struct load load = {app, handle->table, handle->number};
     uint32_t status = find_staged(app, load.number, &is_there);
-    if (status == FSW_SUCCESS && (!is_there || load.table->state != VALIDATION_PENDING))
+    bool is_due = is_there && load.table && load.table->state == VALIDATION_PENDING;
+    if (status == FSW_SUCCESS && !is_due)
         status = FSW_TBL_INFO_NO_LOAD;
     if (status == FSW_SUCCESS)
         status = begin(load);

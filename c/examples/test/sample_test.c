@@ -5,6 +5,7 @@
  *     sample_test FOLDER     where table files are written
  */
 #include "cfe_msgids.h"
+#include "cfe_tbl_events.h"
 #include "check.h"
 #include "fsw_run.h"
 #include "sample_app.h"
@@ -29,8 +30,8 @@ static void send_command(uint32 id, CFE_MSG_FcnCode_t code, const void *argument
     CHECK_STATUS(CFE_SB_TransmitMsg(&packet.Msg, true), CFE_SUCCESS);
 }
 
-/* The next event, which is to have this id and text. */
-static void expect_event(uint16 id, const char *text)
+/* The next event, which is to be this one's, with this id and text. */
+static void expect_event_of(const char *app, uint16 id, const char *text)
 {
     CFE_SB_Buffer_t *buffer;
     CFE_EVS_LongEventTlm_t event;
@@ -40,7 +41,21 @@ static void expect_event(uint16 id, const char *text)
         printf("event %u: %s\n", event.Payload.PacketID.EventID, event.Payload.Message);
     CHECK(event.Payload.PacketID.EventID == id);
     CHECK(strcmp(event.Payload.Message, text) == 0);
-    CHECK(strcmp(event.Payload.PacketID.AppName, "SAMPLE_APP") == 0);
+    CHECK(strcmp(event.Payload.PacketID.AppName, app) == 0);
+}
+
+static void expect_event(uint16 id, const char *text)
+{
+    expect_event_of("SAMPLE_APP", id, text);
+}
+
+/* Table Services' event of what it did with the table, and where the table is from. */
+static void expect_table_event(uint16 id, const char *did, const char *behind, const char *path)
+{
+    char text[200];
+    snprintf(text, sizeof text, "%s of SAMPLE_APP.SampleAppTable%s%s%s", did, behind,
+             path ? " from " : "", path ? path : "");
+    expect_event_of("CFE_TBL", id, text);
 }
 
 static void expect_no_event(void)
@@ -76,16 +91,46 @@ static const char *write_table(uint16 first, uint16 second)
     return path;
 }
 
-static void load_table(const char *path, uint16 id, const char *text)
+static void ask_to_load(const char *path)
 {
-    char argument[OS_MAX_PATH_LEN] = {0}, expected[122];
+    char argument[OS_MAX_PATH_LEN] = {0};
     snprintf(argument, sizeof argument, "%s", path);
     send_command(SAMPLE_APP_CMD_MID, SAMPLE_APP_LOAD_TABLE_CC, argument, sizeof argument);
-    if (id == SAMPLE_APP_TABLE_ERR_EID && strcmp(text, "range") == 0)
-        expect_event(id, "SAMPLE: table out of range, 11 and 2");
-    snprintf(expected, sizeof expected, "SAMPLE: %s %s", path,
-             strcmp(text, "range") == 0 ? "not loaded, 0xffffffff" : text);
+}
+
+static void expect_answer(uint16 id, const char *path, const char *answer)
+{
+    char expected[122];
+    snprintf(expected, sizeof expected, "SAMPLE: %s %s", path, answer);
     expect_event(id, expected);
+}
+
+static void load_tables(void)
+{
+    const char *none = "/no/such/file", *path = write_table(10, 20);
+    ask_to_load(path);
+    expect_answer(SAMPLE_APP_TABLE_INF_EID, path, "loaded");
+    send_command(SAMPLE_APP_CMD_MID, SAMPLE_APP_PROCESS_CC, NULL, 0);
+    expect_event(SAMPLE_APP_PROCESS_INF_EID, "SAMPLE: sum 30");
+    expect_housekeeping(5, 1, 30);
+    path = write_table(11, 2);
+    ask_to_load(path);
+    expect_event(SAMPLE_APP_TABLE_ERR_EID, "SAMPLE: table out of range, 11 and 2");
+    expect_table_event(CFE_TBL_VALIDATION_ERR_EID, "load", " refused 0xffffffff", path);
+    expect_answer(SAMPLE_APP_TABLE_ERR_EID, path, "not loaded, 0xffffffff");
+    ask_to_load(none);
+    expect_table_event(CFE_TBL_FILE_ACCESS_ERR_EID, "load", " refused 0xcc00002c", none);
+    expect_answer(SAMPLE_APP_TABLE_ERR_EID, none, "not loaded, 0xcc00002c");
+    expect_housekeeping(5, 3, 30);
+    /* A table that ground stages is validated and updated with the next housekeeping. */
+    path = write_table(3, 4);
+    CHECK_STATUS(fsw_stage_table(path), CFE_SUCCESS);
+    expect_table_event(CFE_TBL_FILE_LOADED_INF_EID, "stage", "", path);
+    expect_housekeeping(5, 3, 30);
+    expect_table_event(CFE_TBL_VALIDATION_INF_EID, "validation", "", NULL);
+    expect_table_event(CFE_TBL_UPDATE_SUCCESS_INF_EID, "update", "", NULL);
+    send_command(SAMPLE_APP_CMD_MID, SAMPLE_APP_PROCESS_CC, NULL, 0);
+    expect_event(SAMPLE_APP_PROCESS_INF_EID, "SAMPLE: sum 7");
 }
 
 static void play(void)
@@ -107,18 +152,7 @@ static void play(void)
     send_command(id, SAMPLE_APP_DISPLAY_PARAM_CC, &argument, sizeof argument);
     expect_event(SAMPLE_APP_VALUE_INF_EID, "SAMPLE: value 42, text forty-two");
     expect_housekeeping(3, 1, 3);
-    load_table(write_table(10, 20), SAMPLE_APP_TABLE_INF_EID, "loaded");
-    send_command(id, SAMPLE_APP_PROCESS_CC, NULL, 0);
-    expect_event(SAMPLE_APP_PROCESS_INF_EID, "SAMPLE: sum 30");
-    expect_housekeeping(5, 1, 30);
-    load_table(write_table(11, 2), SAMPLE_APP_TABLE_ERR_EID, "range");
-    load_table("/no/such/file", SAMPLE_APP_TABLE_ERR_EID, "not loaded, 0xcc00002c");
-    expect_housekeeping(5, 3, 30);
-    /* A table that ground stages is validated and updated with the next housekeeping. */
-    CHECK_STATUS(fsw_stage_table(write_table(3, 4)), CFE_SUCCESS);
-    expect_housekeeping(5, 3, 30);
-    send_command(id, SAMPLE_APP_PROCESS_CC, NULL, 0);
-    expect_event(SAMPLE_APP_PROCESS_INF_EID, "SAMPLE: sum 7");
+    load_tables();
     /* The filter lets eight events of an unknown code through. */
     for (int i = 0; i < 10; i++) {
         send_command(id, 99, NULL, 0);
