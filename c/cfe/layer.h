@@ -11,6 +11,7 @@
 #include "cfe_sb.h"
 #include "cfe_tbl.h"
 #include "cfe_time.h"
+#include "cfe_tbl_msg.h"
 #include "fsw_run.h"
 
 #include <pthread.h>
@@ -110,8 +111,9 @@ struct table {
     uint32_t loader;                      /* the handle by which it is loaded just now, or 0 */
     const struct task *loading;           /* the task that does so */
     enum load_state state;
-    bool is_commanded; /* a ground command leads the load */
-    bool is_change;    /* what is staged is the owner's change of the bytes in place */
+    bool is_commanded;  /* a ground command leads the load */
+    bool is_active_due; /* a ground command asked for a validation of the table as it is */
+    bool is_change;     /* what is staged is the owner's change of the bytes in place */
     CFE_TBL_CallbackFuncPtr_t validate;
     struct source source; /* of what is staged */
     uint32_t staged_crc;  /* of what was validated last */
@@ -165,6 +167,7 @@ struct layer {
     struct fsw_buffer *buffer; /* limits.buffers for each application */
     struct pool pool[MOST_POOLS];
     struct table table[MOST_TABLES];
+    CFE_TBL_HousekeepingTlm_Payload_t table_counts; /* what isn't counted in the tables */
     struct table *first_table; /* whose memory lies first in that which fsw_configure gave */
     struct handle handle[MOST_HANDLES];
 };
@@ -321,6 +324,8 @@ void fsw_serve_bus(const struct fsw_command *command);
 void fsw_send_bus_housekeeping(const struct fsw_command *command);
 void fsw_serve_events(const struct fsw_command *command);
 void fsw_send_event_housekeeping(const struct fsw_command *command);
+void fsw_serve_tables(const struct fsw_command *command);
+void fsw_send_table_housekeeping(const struct fsw_command *command);
 
 /* The function code; UINT8_MAX if the message is no command. */
 uint32_t fsw_code_of(const struct fsw_command *command);

@@ -14,6 +14,12 @@ struct load {
     uint32_t number;
 };
 
+/* What a validation function found, and the CRC of the bytes. */
+struct verdict {
+    uint32_t status;
+    uint32_t crc;
+};
+
 /* What an event says of a call at its end. */
 struct report {
     const char *call;
@@ -81,6 +87,11 @@ void fsw_drop_load(struct load load);
  */
 uint32_t fsw_stage_file(struct app *app, const char *path, bool is_commanded,
                         struct report *report);
+
+/* ---- tbl_ground.c: what the housekeeping packet says ---- */
+
+void fsw_note_validation(const struct table *table, bool is_active, struct verdict verdict);
+void fsw_note_update(const struct table *table);
 
 /* ---- tbl_report.c ---- */
 

@@ -235,6 +235,7 @@ static bool open_layer(const struct fsw_limits *limits)
     memset(layer->pool, 0, sizeof layer->pool);
     memset(layer->table, 0, sizeof layer->table);
     memset(layer->handle, 0, sizeof layer->handle);
+    memset(&layer->table_counts, 0, sizeof layer->table_counts);
     memset(layer->bus_events, 0, sizeof layer->bus_events);
     layer->events_seen = 0;
     layer->requests = 0;

@@ -262,7 +262,8 @@ static void keep_command(struct fsw_command *command, const CFE_MSG_Message_t *m
 {
     command->size = length_of(message);
     memcpy(command->bytes, message,
-           command->size <= sizeof command->bytes ? command->size : sizeof *message);
+           command->size <= sizeof command->bytes ? command->size
+                                                  : sizeof(CFE_MSG_CommandHeader_t));
 }
 
 /* Ends an accepted send of a command to a service, which does it before the call ends. */

@@ -16,7 +16,9 @@ static const struct {
 } services[] = {{CFE_SB_CMD_MID, fsw_serve_bus},
                 {CFE_SB_SEND_HK_MID, fsw_send_bus_housekeeping},
                 {CFE_EVS_CMD_MID, fsw_serve_events},
-                {CFE_EVS_SEND_HK_MID, fsw_send_event_housekeeping}};
+                {CFE_EVS_SEND_HK_MID, fsw_send_event_housekeeping},
+                {CFE_TBL_CMD_MID, fsw_serve_tables},
+                {CFE_TBL_SEND_HK_MID, fsw_send_table_housekeeping}};
 
 void fsw_serve(const struct fsw_command *command)
 {

@@ -94,6 +94,7 @@ static void drop_handle(struct handle *handle)
     if (table->owner == handle->number) {
         table->owner = 0;
         table->state = NO_LOAD;
+        table->is_active_due = false;
     }
     *handle = (struct handle){.number = 0};
     table->users--;
@@ -335,6 +336,7 @@ static uint32_t change_dump_only(struct table *table)
     info->Crc = CFE_ES_CalculateCRC(table->copy, info->Size, 0, CFE_MISSION_ES_CRC_16);
     info->TimeOfLastUpdate = CFE_TIME_GetTime();
     mark_source(info->LastFileLoaded);
+    fsw_note_update(table);
     return FSW_SUCCESS;
 }
 

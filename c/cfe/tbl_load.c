@@ -83,6 +83,19 @@ static uint32_t stage_changes(struct load load)
     return status;
 }
 
+/* Asks a table's validation function of these bytes; the mutex is let go meanwhile. */
+static struct verdict judge(const struct table *table, uint8_t *bytes)
+{
+    CFE_TBL_CallbackFuncPtr_t validation = table->validate;
+    size_t size = table->info.Size;
+    fsw_leave();
+    int32 status = validation ? validation(bytes) : CFE_SUCCESS;
+    uint32_t crc = CFE_ES_CalculateCRC(bytes, size, 0, CFE_MISSION_ES_DEFAULT_CRC);
+    fsw_resume();
+    /* As in cFE, a positive verdict is none. */
+    return (struct verdict){(uint32_t)(status > 0 ? -1 : status), crc};
+}
+
 /* Validates what is staged, by the table's function, on a copy. */
 static uint32_t validate(struct load load)
 {
@@ -92,16 +105,11 @@ static uint32_t validate(struct load load)
     if (status != FSW_SUCCESS)
         return status;
     memcpy(table->image, staged.at, staged.len);
-    CFE_TBL_CallbackFuncPtr_t validation = table->validate;
-    fsw_leave();
-    int32 verdict = validation ? validation(table->image) : CFE_SUCCESS;
-    uint32_t crc = CFE_ES_CalculateCRC(table->image, table->info.Size, 0, CFE_MISSION_ES_CRC_16);
-    fsw_resume();
-    table->staged_crc = crc;
-    /* As in cFE, a positive verdict is none. */
-    if (verdict != CFE_SUCCESS)
-        return (uint32_t)(verdict > 0 ? -1 : verdict);
-    if (validation)
+    struct verdict verdict = judge(table, table->image);
+    table->staged_crc = verdict.crc;
+    if (verdict.status != FSW_SUCCESS)
+        return verdict.status;
+    if (table->validate)
         status = stage_changes(load);
     return status == FSW_SUCCESS
                ? fsw_table_validate(&fsw_layer.core, load.app->number, load.number)
@@ -125,6 +133,7 @@ static void note_value(const struct app *app, struct table *table, uint32_t numb
         table->copied = figures.version;
     table->state = NO_LOAD;
     table->is_change = false;
+    fsw_note_update(table);
 }
 
 uint32_t fsw_update_table(const struct app *app, struct table *table, uint32_t number)
@@ -369,16 +378,41 @@ CFE_Status_t fsw_stage_table(const char *file)
     return fsw_status(report.status, CFE_TBL_BAD_ARGUMENT);
 }
 
-/* What follows on a validation that was asked for. What isn't valid waits for a ground command. */
-static void conclude(struct load load, uint32_t status)
+/* Makes the validation of what is staged. What isn't valid waits for a ground command. */
+static uint32_t validate_staged(struct load load)
 {
     struct table *table = load.table;
+    uint32_t status = validate(load);
+    fsw_note_validation(table, false, (struct verdict){status, table->staged_crc});
     if (status == FSW_SUCCESS)
         table->state = table->is_commanded ? VALIDATED : UPDATE_PENDING;
     else if (table->is_commanded)
         table->state = LOADED;
     else
         fsw_drop_load(load);
+    return status;
+}
+
+/* Makes the validation of a table as it is: of a dump-only one there, of another on a copy. */
+static uint32_t validate_active(struct load load)
+{
+    struct fsw_address address = {NULL, 0, 0};
+    struct table *table = load.table;
+    uint32_t number = 0, status = FSW_SUCCESS;
+    if (!table->info.DumpOnly)
+        status = fsw_share_table(load.app, table, &number);
+    if (status != FSW_SUCCESS)
+        return status;
+    if (number) {
+        fsw_table_get_address(&fsw_layer.core, load.app->number, number, &address);
+        if (address.at)
+            memcpy(table->image, address.at, address.len);
+        fsw_table_unregister(&fsw_layer.core, load.app->number, number);
+    }
+    table->is_active_due = false;
+    struct verdict verdict = judge(table, number ? table->image : table->copy);
+    fsw_note_validation(table, true, verdict);
+    return verdict.status;
 }
 
 CFE_Status_t CFE_TBL_Validate(CFE_TBL_Handle_t TblHandle)
@@ -393,14 +427,13 @@ CFE_Status_t CFE_TBL_Validate(CFE_TBL_Handle_t TblHandle)
     struct load load = {app, handle->table, handle->number};
     uint32_t status = find_staged(app, load.number, &is_there);
     bool is_due = is_there && load.table && load.table->state == VALIDATION_PENDING;
-    if (status == FSW_SUCCESS && !is_due)
+    if (status == FSW_SUCCESS && !is_due && !(load.table && load.table->is_active_due))
         status = FSW_TBL_INFO_NO_LOAD;
     if (status == FSW_SUCCESS)
         status = begin(load);
     if (status != FSW_SUCCESS)
         return leave_with_report(&report, status);
-    status = validate(load);
-    conclude(load, status);
+    status = is_due ? validate_staged(load) : validate_active(load);
     end(load.table);
     /* As in cFE, that a validation was made is success; the event has its verdict. */
     leave_with_report(&report, status);
@@ -441,15 +474,19 @@ CFE_Status_t CFE_TBL_GetStatus(CFE_TBL_Handle_t TblHandle)
     struct app *app = fsw_enter();
     if (!app)
         return CFE_ES_ERR_RESOURCEID_NOT_VALID;
-    uint32_t status = state_of(app, fsw_handle_at(TblHandle), &state);
+    const struct handle *handle = fsw_handle_at(TblHandle);
+    uint32_t status = state_of(app, handle, &state);
+    if (status == FSW_SUCCESS && handle->table->is_active_due)
+        state = VALIDATION_PENDING;
     fsw_leave();
     return status == FSW_SUCCESS ? answers[state] : fsw_status(status, CFE_TBL_BAD_ARGUMENT);
 }
 
 CFE_Status_t CFE_TBL_Manage(CFE_TBL_Handle_t TblHandle)
 {
+    enum { VALIDATIONS = 2 }; /* of what is staged, and of the table as it is */
     CFE_Status_t status = CFE_TBL_GetStatus(TblHandle);
-    if (status == CFE_TBL_INFO_VALIDATION_PENDING) {
+    for (int i = 0; i < VALIDATIONS && status == CFE_TBL_INFO_VALIDATION_PENDING; i++) {
         status = CFE_TBL_Validate(TblHandle);
         if (status == CFE_SUCCESS)
             status = CFE_TBL_GetStatus(TblHandle);

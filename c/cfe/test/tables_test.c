@@ -5,6 +5,7 @@
  */
 #include "cfe_msgids.h"
 #include "cfe_tbl_events.h"
+#include "cfe_tbl_msg.h"
 #include "run_apps.h"
 
 #include <fcntl.h>
@@ -661,6 +662,189 @@ static void share_tables(void)
     reach(4);
 }
 
+/* ---- Ground commands ---- */
+
+static CFE_SB_PipeId_t replies, packets;
+
+/* Sends a command with a payload, to be answered by this event; 0: by none. */
+static void command(CFE_MSG_FcnCode_t code, const void *payload, size_t size, uint16 event)
+{
+    union {
+        CFE_MSG_Message_t message;
+        uint8 bytes[200];
+    } packet;
+    size_t header = sizeof(CFE_MSG_CommandHeader_t);
+    CHECK_STATUS(CFE_MSG_Init(&packet.message, CFE_TBL_CMD_MID, header + size), CFE_SUCCESS);
+    CHECK_STATUS(CFE_MSG_SetFcnCode(&packet.message, code), CFE_SUCCESS);
+    if (size > 0)
+        memcpy(packet.bytes + header, payload, size);
+    CHECK_STATUS(CFE_SB_TransmitMsg(&packet.message, true), CFE_SUCCESS);
+    expect_event(replies, event);
+    expect_event(replies, 0);
+}
+
+static void command_load(const char *path, uint16 event)
+{
+    CFE_TBL_LoadCmd_Payload_t payload = {{0}};
+    memcpy(payload.LoadFilename, path, strlen(path));
+    command(CFE_TBL_LOAD_CC, &payload, sizeof payload, event);
+}
+
+static void command_table(CFE_MSG_FcnCode_t code, const char *table, uint16 event)
+{
+    CFE_TBL_ActivateCmd_Payload_t payload = {{0}};
+    memcpy(payload.TableName, table, strlen(table));
+    command(code, &payload, sizeof payload, event);
+}
+
+static void command_validation(const char *table, uint16 buffer, uint16 event)
+{
+    CFE_TBL_ValidateCmd_Payload_t payload = {buffer, {0}};
+    memcpy(payload.TableName, table, strlen(table));
+    command(CFE_TBL_VALIDATE_CC, &payload, sizeof payload, event);
+}
+
+static CFE_TBL_HousekeepingTlm_Payload_t housekeeping(void)
+{
+    CFE_SB_Buffer_t *buffer;
+    CFE_MSG_CommandHeader_t request;
+    CFE_TBL_HousekeepingTlm_t packet;
+    CFE_MSG_Size_t size = 0;
+    CHECK_STATUS(CFE_MSG_Init(CFE_MSG_PTR(request), CFE_TBL_SEND_HK_MID, sizeof request),
+                 CFE_SUCCESS);
+    CHECK_STATUS(CFE_SB_TransmitMsg(CFE_MSG_PTR(request), false), CFE_SUCCESS);
+    CHECK_STATUS(CFE_SB_ReceiveBuffer(&buffer, packets, CFE_SB_POLL), CFE_SUCCESS);
+    CHECK_STATUS(CFE_MSG_GetSize(&buffer->Msg, &size), CFE_SUCCESS);
+    CHECK(size == sizeof packet);
+    memcpy(&packet, buffer, sizeof packet);
+    return packet.Payload;
+}
+
+static const uint16 inactive = CFE_TBL_BufferSelect_INACTIVE, active = CFE_TBL_BufferSelect_ACTIVE;
+
+/* The owner's part of a validation, with the event of its verdict. */
+static void manage_validation(CFE_TBL_Handle_t handle, uint16 event)
+{
+    CHECK_STATUS(CFE_TBL_GetStatus(handle), CFE_TBL_INFO_VALIDATION_PENDING);
+    CHECK_STATUS(CFE_TBL_Manage(handle), CFE_SUCCESS);
+    expect_event(replies, event);
+    CHECK_STATUS(CFE_TBL_GetStatus(handle), CFE_SUCCESS);
+}
+
+/* A table is loaded in flight: its owner calls CFE_TBL_Manage alone. */
+static void check_commanded_load(CFE_TBL_Handle_t handle)
+{
+    command_table(CFE_TBL_ACTIVATE_CC, "FIRST.TABLE", CFE_TBL_ACTIVATE_ERR_EID);
+    command_table(CFE_TBL_ABORT_LOAD_CC, "FIRST.TABLE", CFE_TBL_LOAD_ABORT_ERR_EID);
+    command_validation("FIRST.TABLE", inactive, CFE_TBL_NO_INACTIVE_BUFFER_ERR_EID);
+    command_load(good_file(11), CFE_TBL_FILE_LOADED_INF_EID);
+    CHECK_STATUS(CFE_TBL_Manage(handle), CFE_SUCCESS);
+    CHECK_STATUS(load(handle, 2), CFE_TBL_ERR_LOAD_IN_PROGRESS);
+    expect_event(replies, CFE_TBL_LOAD_IN_PROGRESS_ERR_EID);
+    command_table(CFE_TBL_ACTIVATE_CC, "FIRST.TABLE", CFE_TBL_UNVALIDATED_ERR_EID);
+    command_validation("FIRST.TABLE", inactive, CFE_TBL_VAL_REQ_MADE_INF_EID);
+    manage_validation(handle, CFE_TBL_VALIDATION_ERR_EID);
+    command_table(CFE_TBL_ACTIVATE_CC, "FIRST.TABLE", CFE_TBL_UNVALIDATED_ERR_EID);
+    /* A part is loaded over what is staged. */
+    command_load(write_file("cFE1", 8, "FIRST.TABLE", 0, "\3", 1, 1), CFE_TBL_FILE_LOADED_INF_EID);
+    command_validation("FIRST.TABLE", inactive, CFE_TBL_VAL_REQ_MADE_INF_EID);
+    manage_validation(handle, CFE_TBL_VALIDATION_INF_EID);
+    CHECK(number_of(handle, CFE_TBL_INFO_UPDATED) == 1);
+    CHECK(housekeeping().NumLoadPending == 0 && housekeeping().NumFreeSharedBufs == 3);
+    command_table(CFE_TBL_ACTIVATE_CC, "FIRST.TABLE", CFE_TBL_LOAD_PEND_REQ_INF_EID);
+    command_load(good_file(4), CFE_TBL_LOAD_IN_PROGRESS_ERR_EID);
+    CHECK(housekeeping().NumLoadPending == 1);
+    CHECK_STATUS(CFE_TBL_Manage(handle), CFE_SUCCESS);
+    expect_event(replies, CFE_TBL_UPDATE_SUCCESS_INF_EID);
+    const table_t *table = address_of(handle, CFE_TBL_INFO_UPDATED);
+    CHECK(table->number == 3 && table->bytes[0] == 1 && table->bytes[11] == 0xee);
+    CHECK_STATUS(CFE_TBL_ReleaseAddress(handle), CFE_SUCCESS);
+    command_load(good_file(5), CFE_TBL_FILE_LOADED_INF_EID);
+    command_table(CFE_TBL_ABORT_LOAD_CC, "FIRST.TABLE", CFE_TBL_LOAD_ABORT_INF_EID);
+    CHECK_STATUS(load(handle, 1), CFE_SUCCESS);
+    CHECK(number_of(handle, CFE_TBL_INFO_UPDATED) == 1);
+}
+
+static void check_refused_commands(void)
+{
+    char name[CFE_TBL_MAX_FULL_NAME_LEN + 1], path[CFE_MISSION_MAX_PATH_LEN + 1];
+    static const uint8 longer[192];
+    memset(name, 'n', sizeof name);
+    memset(path, 'p', sizeof path);
+    name[sizeof name - 1] = path[sizeof path - 1] = '\0';
+    command_load(path, CFE_TBL_LOAD_FILENAME_LONG_ERR_EID);
+    command_load(path_of("none"), CFE_TBL_FILE_ACCESS_ERR_EID);
+    command_load("/dev/stdin", CFE_TBL_FILE_ACCESS_ERR_EID);
+    command_load(file_for("NO.TABLE", 1), CFE_TBL_NO_SUCH_TABLE_ERR_EID);
+    command_load(file_for("FIRST.DUMP", 1), CFE_TBL_LOADING_A_DUMP_ONLY_ERR_EID);
+    command_load(write_file("cFE1", 8, "FIRST.TABLE", 1, "0123456789abcdef", 16, 16),
+                 CFE_TBL_LOAD_EXCEEDS_SIZE_ERR_EID);
+    command_load(write_file("cFE1", 8, "FIRST.NEW", 1, "0123", 4, 4), CFE_TBL_PARTIAL_LOAD_ERR_EID);
+    command_load(write_file("cFE1", 8, "FIRST.NEW", 0, "0123", 3, 4),
+                 CFE_TBL_FILE_INCOMPLETE_ERR_EID);
+    command_table(CFE_TBL_ACTIVATE_CC, name, CFE_TBL_NO_SUCH_TABLE_ERR_EID);
+    command_table(CFE_TBL_ABORT_LOAD_CC, "FIRST.", CFE_TBL_NO_SUCH_TABLE_ERR_EID);
+    command_table(CFE_TBL_ACTIVATE_CC, "FIRST.DUMP", CFE_TBL_ACTIVATE_DUMP_ONLY_ERR_EID);
+    command_validation("", inactive, CFE_TBL_NO_SUCH_TABLE_ERR_EID);
+    command_validation("FIRST.TABLE", 2, CFE_TBL_ILLEGAL_BUFF_PARAM_ERR_EID);
+    command_validation("FIRST.DUMP", inactive, CFE_TBL_NO_INACTIVE_BUFFER_ERR_EID);
+    command(CFE_TBL_NOOP_CC, name, 1, CFE_TBL_LEN_ERR_EID);
+    command(CFE_TBL_LOAD_CC, path, 65, CFE_TBL_LEN_ERR_EID);
+    command(CFE_TBL_LOAD_CC, longer, sizeof longer, CFE_TBL_LEN_ERR_EID);
+    command(3, path, 0, CFE_TBL_CC1_ERR_EID);
+    command(127, path, 0, CFE_TBL_CC1_ERR_EID);
+}
+
+/* A table as it is is validated too, also a dump-only one; one without a function is valid. */
+static void check_commanded_validations(CFE_TBL_Handle_t handle)
+{
+    CFE_TBL_Handle_t dump = table_of("DUMP", CFE_TBL_OPT_DUMP_ONLY, validate),
+                     plain = table_of("NEW", CFE_TBL_OPT_DBL_BUFFER, NULL);
+    check_refused_commands();
+    command_validation("FIRST.TABLE", active, CFE_TBL_VAL_REQ_MADE_INF_EID);
+    manage_validation(handle, CFE_TBL_VALIDATION_INF_EID);
+    CHECK(housekeeping().ActiveBuffer && housekeeping().LastValStatus == CFE_SUCCESS);
+    address_of(dump, CFE_SUCCESS)->number = 20;
+    command_validation("FIRST.DUMP", active, CFE_TBL_VAL_REQ_MADE_INF_EID);
+    manage_validation(dump, CFE_TBL_VALIDATION_ERR_EID);
+    CFE_TBL_HousekeepingTlm_Payload_t hk = housekeeping();
+    CHECK(hk.LastValStatus == -7 && strcmp(hk.LastValTableName, "FIRST.DUMP") == 0);
+    command_load(write_file("cFE1", 8, "FIRST.NEW", 0, "\7\0", 2, 2), CFE_TBL_FILE_LOADED_INF_EID);
+    command_validation("FIRST.NEW", inactive, CFE_TBL_ASSUMED_VALID_INF_EID);
+    command_table(CFE_TBL_ACTIVATE_CC, "FIRST.NEW", CFE_TBL_LOAD_PEND_REQ_INF_EID);
+    CHECK_STATUS(CFE_TBL_Manage(plain), CFE_SUCCESS);
+    CHECK(number_of(plain, CFE_TBL_INFO_UPDATED) == 7);
+    const table_t *table = address_of(plain, CFE_SUCCESS);
+    CHECK(info_of("FIRST.NEW").Crc == CFE_ES_CalculateCRC(table, sizeof *table, 0, 2));
+    expect_event(replies, CFE_TBL_UPDATE_SUCCESS_INF_EID);
+}
+
+static void obey_ground(void)
+{
+    replies = open_events("REPLIES");
+    CHECK_STATUS(CFE_SB_CreatePipe(&packets, 4, "PACKETS"), CFE_SUCCESS);
+    CHECK_STATUS(CFE_SB_Subscribe(CFE_TBL_HK_TLM_MID, packets), CFE_SUCCESS);
+    CFE_TBL_Handle_t handle = table_of("TABLE", CFE_TBL_OPT_DEFAULT, validate);
+    CHECK_STATUS(load(handle, 1), CFE_SUCCESS);
+    CFE_TBL_HousekeepingTlm_Payload_t hk = housekeeping();
+    CHECK(hk.CommandCounter == 0 && hk.CommandErrorCounter == 0 && hk.NumTables == 1);
+    CHECK(hk.NumFreeSharedBufs == 4 && strcmp(hk.LastUpdatedTable, "FIRST.TABLE") == 0);
+    command(CFE_TBL_NOOP_CC, NULL, 0, CFE_TBL_NOOP_INF_EID);
+    check_commanded_load(handle);
+    hk = housekeeping();
+    CHECK(hk.CommandCounter == 8 && hk.CommandErrorCounter == 6);
+    CHECK(hk.ValidationCounter == 2 && hk.SuccessValCtr == 1 && hk.FailedValCtr == 1);
+    CHECK(hk.NumValRequests == 2 && hk.LastValCrc && !hk.ActiveBuffer);
+    CHECK(strcmp(hk.LastTableLoaded, "FIRST.TABLE") == 0);
+    CHECK(strcmp(hk.LastFileLoaded, path_of("table.tbl")) == 0);
+    check_commanded_validations(handle);
+    CHECK(housekeeping().CommandErrorCounter == 6 + 19 && housekeeping().NumTables == 3);
+    command(CFE_TBL_RESET_COUNTERS_CC, NULL, 0, CFE_TBL_RESET_INF_EID);
+    hk = housekeeping();
+    CHECK(hk.CommandCounter == 0 && hk.CommandErrorCounter == 0 && hk.ValidationCounter == 0);
+    CHECK(hk.SuccessValCtr == 0 && hk.FailedValCtr == 0 && hk.NumValRequests == 0);
+}
+
 /* ---- Where files lie ---- */
 
 /* What isn't a regular file is refused at once. */
@@ -781,6 +965,7 @@ int main(int argc, char **argv)
     run(change_double, see_changes);
     run(change_beside_load, NULL);
     run(test_tables, share_tables);
+    run(obey_ground, NULL);
     run(load_no_files, NULL);
     check_file_root();
     check_memory();
