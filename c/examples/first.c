@@ -25,7 +25,7 @@ int main(void)
         printf("message %u of %u bytes, the last is %u\n", (unsigned)message.number,
                (unsigned)message.len, message.at[7]);
     else
-        printf("refused: 0x%08x\n", (unsigned)status);
+        printf("refused: %s\n", fsw_status_text(status));
     fsw_close(&core);
     return status == FSW_SUCCESS ? 0 : 1;
 }

@@ -41,6 +41,12 @@
 extern "C" {
 #endif
 
+/*
+ * The version of this header. It goes up by one if a program has to be changed or compiled anew;
+ * CHANGELOG.md says what to change.
+ */
+#define FSW_VERSION 2u
+
 /* ----------------------------------------------------------------------------------------------
  * Statuses. Those of cFE have cFE's numbers; this library's own lie where cFE has no service
  * (service number 0).
@@ -58,6 +64,7 @@ extern "C" {
 #define FSW_NO_ROOM        0xc0000009u /* fsw_allocate_buffer: it has limits.buffers out */
 #define FSW_BUFFER_OUT \
     0xc000000au /* fsw_end: it has a buffer out; fsw_allocate_buffer: so has the struct */
+#define FSW_OTHER_VERSION 0xc000000bu /* fsw_open: the library is of another FSW_VERSION */
 #define FSW_RULE_FAILED(rule) \
     (0xc0000100u + (uint32_t)(rule)) /* a staged value fails this rule, 1 to 8 */
 
@@ -408,6 +415,19 @@ uint32_t fsw_raw_function_code(const uint8_t *bytes, size_t bytes_len, uint8_t *
 uint32_t fsw_raw_set_function_code(uint8_t *bytes, size_t bytes_len, uint8_t code);
 uint32_t fsw_raw_read_image(const uint8_t *file, size_t file_len, struct fsw_image *image);
 
+/* ----------------------------------------------------------------------------------------------
+ * What the library has in plain C (fsw_text.c).
+ */
+
+/* The FSW_VERSION that the library was made with. */
+uint32_t fsw_library_version(void);
+
+/*
+ * The name of a status as it stands above, such as "FSW_SB_BAD_ARGUMENT", or "FSW_RULE_FAILED(3)".
+ * Of any other number "no status of fsw.h".
+ */
+const char *fsw_status_text(uint32_t status);
+
 /* A pointer that isn't null, for a length of 0; aligned for each type of element. */
 static inline const void *fsw_some(const void *pointer)
 {
@@ -433,6 +453,7 @@ static inline bool fsw_is_bad(const void *pointer, size_t len)
  * 16384, 32768 and 80000 that are limits.blockmin or more. A block takes 16 bytes beyond its size.
  * The larger the smallest block, the fewer blocks there may be, and the less memory they need.
  *
+ * FSW_OTHER_VERSION if the program was compiled with another version's header than the library;
  * FSW_ALREADY_OPEN; FSW_BAD_LIMITS if a limit isn't in its range; FSW_NO_MEMORY, after which some
  * of the memory may stay taken.
  */
@@ -440,6 +461,8 @@ static inline uint32_t fsw_open(struct fsw_core *core, const struct fsw_limits *
 {
     if (!core || !limits)
         return FSW_BAD_LIMITS;
+    if (fsw_library_version() != FSW_VERSION)
+        return FSW_OTHER_VERSION;
     return fsw_raw_open(core, limits);
 }
 

@@ -4,7 +4,9 @@ structs.
     exports.py --rattle           prints what the header asks of the Rattle sources
     exports.py SOURCE ..          compares the header with `extern "C"` functions, structs and status numbers of Rattle sources
     exports.py --library FILE     compares the names with those that `nm` finds defined in a library or an object
+    exports.py --texts FILE       asks a shared object with all exports for its version and for the text of each status
 """
+import ctypes
 import re
 import subprocess
 import sys
@@ -15,8 +17,10 @@ NUMBERS = {'uint8_t': 'u8', 'uint16_t': 'u16', 'uint32_t': 'u32', 'uint64_t': 'u
 # What a handle or a buffer points to stands in a struct of its own, which owns it.
 OWNED = {'FswCore': ['held: HeldCore', 'is_open: u64'], 'FswBuffer': ['lent: LentBlock', 'number: u64', 'is_out: u64']}
 
-# What the header's inline functions alone answer: a null pointer for a call of the tables.
-INLINE = {'0xcc00002d'}
+# What the header's inline functions alone answer: a null pointer for a call of the tables, another version.
+INLINE = {'0xcc00002d', '0xc000000b'}
+# What the library has in plain C.
+PLAIN = {'fsw_library_version', 'fsw_status_text'}
 
 
 def camel(name):
@@ -111,8 +115,37 @@ def same_numbers(paths):
     return wanted == given
 
 
+def statuses():
+    """The name and the number of each status of the header."""
+    text = HEADER.read_text(encoding='utf-8')
+    found = [(name, int(number, 16)) for name, number in
+             re.findall(r'^#define (FSW_\w+)\s+(?:\\\n\s*)?(0x[0-9a-f]{8}|0)u(?= |$)', text, re.M)]
+    first = int(re.search(r'FSW_RULE_FAILED\(rule\) \\\n\s*\((0x[0-9a-f]+)u \+', text)[1], 16)
+    return found + [(f'FSW_RULE_FAILED({rule})', first + rule) for rule in range(1, 9)]
+
+
+def same_texts(path):
+    """Whether each status has its name as its text, no other number has one, and the versions are the same."""
+    library = ctypes.CDLL(path)
+    library.fsw_status_text.restype = ctypes.c_char_p
+    named = statuses()
+    others = {number for _, each in named for number in (each ^ 0x20000000, each + 0x1000, each ^ 0x80000000)}
+    others -= {number for _, number in named}
+    wanted = named + [('no status of fsw.h', number & 0xffffffff) for number in others]
+    wrong = [(name, number) for name, number in wanted if library.fsw_status_text(ctypes.c_uint32(number)) != name.encode()]
+    for name, number in wrong:
+        print(f'status 0x{number:08x}: its text is not {name}')
+    version = int(re.search(r'^#define FSW_VERSION (\d+)u$', HEADER.read_text(encoding='utf-8'), re.M)[1])
+    given = ctypes.c_uint32(library.fsw_library_version()).value
+    if given != version:
+        print(f'the header is of version {version}, the library of {given}')
+    return len(named) > 60 and len({number for _, number in named}) == len(named) and not wrong and given == version
+
+
 def main():
     functions, structs = declared()
+    if sys.argv[1:2] == ['--texts']:
+        return 0 if same_texts(sys.argv[2]) else 1
     if sys.argv[1:2] == ['--rattle']:
         print_rattle(functions, structs)
         return 0
@@ -120,7 +153,7 @@ def main():
         told = subprocess.run(['nm', '-g', '--defined-only', sys.argv[2]], capture_output=True, text=True, check=True)
         # Names that begin with two underscores are the tool chain's.
         names = {name: '' for name in re.findall(r' T (\w+)$', told.stdout, re.M) if not name.startswith('__')}
-        return 0 if compare({name: '' for name in functions}, names) else 1
+        return 0 if compare({name: '' for name in [*functions, *PLAIN]}, names) else 1
     given, its = exported(sys.argv[1:])
     good = compare(functions, given)
     good = same_numbers(sys.argv[1:]) and good
