@@ -9,8 +9,11 @@ objects = $(patsubst %,$(BUILD)/%$(2).o,$($(1)))
 # Processes are joined by ZeroMQ, where it is installed.
 HAS_ZMQ = $(wildcard /usr/include/zmq.h)
 
+INSTALLED_SHARE += examples/template
+
 INCLUDES += -Iexamples
 HEADERS += $(wildcard examples/*.h)
+ANALYZED += $(wildcard examples/template/*.c)
 ANALYZED += $(addprefix examples/,my_app.c two_apps.c sample_app_tbl.c $(addsuffix .c,$(MISSION) $(if $(HAS_ZMQ),$(NODE))))
 PROGRAMS += $(addprefix $(BUILD)/,my_app two_apps mission $(if $(HAS_ZMQ),sbn_node))
 # The programs under a sanitizer run in the whole test alone.

@@ -5,7 +5,7 @@ OSAL_HEADERS = $(wildcard osal/*.h)
 INCLUDES += -Iosal
 HEADERS += $(OSAL_HEADERS)
 LIBRARIES += $(BUILD)/libfsw_osal.a
-INSTALLED_PACKAGES += osal/fsw_osal
+PACKAGES += osal/fsw_osal.pc.in
 ANALYZED += osal/osapi.c
 TESTS += $(BUILD)/other_osal_test
 
