@@ -41,7 +41,7 @@ $(BUILD)/layer_cost: bench/layer_cost.c $(CFE) $(HEADERS)
 ADDRESS_CFE = $(CFE_OBJECTS:.o=.address.o) $(BUILD)/osapi.address.o $(if $(LIBRARY),$(CORE),$(BUILD)/stand_in.address.o $(BUILD)/fsw_text.address.o)
 THREAD_CFE = $(CFE_OBJECTS:.o=.thread.o) $(BUILD)/osapi.thread.o $(if $(LIBRARY),$(CORE),$(BUILD)/stand_in.thread.o $(BUILD)/fsw_text.thread.o)
 
-SOURCE_FOLDERS = . cfe osal cfe/test test examples examples/test
+SOURCE_FOLDERS = . cfe osal cfe/test test examples examples/test examples/ten_apps
 
 define sanitized_objects
 $(BUILD)/%.address.o: $(1)/%.c $$(HEADERS) | $(BUILD)

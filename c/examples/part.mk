@@ -4,6 +4,7 @@
 MISSION = mission ground_link sample_app
 NODE = sbn_node sbn_zmq
 SAMPLE = sample_test sample_app
+TEN = $(patsubst examples/ten_apps/%.c,%,$(wildcard examples/ten_apps/*.c))
 objects = $(patsubst %,$(BUILD)/%$(2).o,$($(1)))
 
 # Processes are joined by ZeroMQ, where it is installed.
@@ -12,15 +13,18 @@ HAS_ZMQ = $(wildcard /usr/include/zmq.h)
 INSTALLED_SHARE += examples/template
 
 INCLUDES += -Iexamples
-HEADERS += $(wildcard examples/*.h)
-ANALYZED += $(wildcard examples/template/*.c)
+HEADERS += $(wildcard examples/*.h examples/ten_apps/*.h)
+ANALYZED += $(wildcard examples/template/*.c examples/ten_apps/*.c)
 ANALYZED += $(addprefix examples/,my_app.c two_apps.c sample_app_tbl.c $(addsuffix .c,$(MISSION) $(if $(HAS_ZMQ),$(NODE))))
-PROGRAMS += $(addprefix $(BUILD)/,my_app two_apps mission $(if $(HAS_ZMQ),sbn_node))
+PROGRAMS += $(addprefix $(BUILD)/,my_app two_apps mission ten_apps $(if $(HAS_ZMQ),sbn_node))
 # The programs under a sanitizer run in the whole test alone.
-SANITIZED_PROGRAMS = mission.address mission.thread $(if $(HAS_ZMQ),sbn_node.address sbn_node.thread)
+SANITIZED_PROGRAMS = mission.address mission.thread ten_apps.address ten_apps.thread $(if $(HAS_ZMQ),sbn_node.address sbn_node.thread)
 TESTS += $(addprefix $(BUILD)/,sample_app_tbl.o sample_test sample_test.address sample_test.thread $(if $(SHORT),,$(SANITIZED_PROGRAMS)))
 
 $(BUILD)/%.o: examples/test/%.c $(HEADERS) | $(BUILD)
+	$(COMPILE) -c $< -o $@
+
+$(BUILD)/%.o: examples/ten_apps/%.c $(HEADERS) | $(BUILD)
 	$(COMPILE) -c $< -o $@
 
 $(BUILD)/my_app: $(BUILD)/my_app.o $(CFE)
@@ -36,6 +40,15 @@ $(BUILD)/mission.address: $(call objects,MISSION,.address) $(ADDRESS_CFE)
 	$(CC) $(ADDRESS) -pthread -o $@ $^
 
 $(BUILD)/mission.thread: $(call objects,MISSION,.thread) $(THREAD_CFE)
+	$(CC) $(THREAD) -pthread -o $@ $^
+
+$(BUILD)/ten_apps: $(call objects,TEN) $(CFE)
+	$(CC) $(CFLAGS) -pthread -o $@ $^
+
+$(BUILD)/ten_apps.address: $(call objects,TEN,.address) $(ADDRESS_CFE)
+	$(CC) $(ADDRESS) -pthread -o $@ $^
+
+$(BUILD)/ten_apps.thread: $(call objects,TEN,.thread) $(THREAD_CFE)
 	$(CC) $(THREAD) -pthread -o $@ $^
 
 $(BUILD)/sample_test: $(call objects,SAMPLE) $(CFE)
