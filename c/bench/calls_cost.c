@@ -2,12 +2,12 @@
  * calls_cost.c: the rounds of docs/bench/plain_bus.c over the calls of fsw.h, to be timed and
  * counted beside it.
  *
- *     calls_cost WORD ROUNDS [lock]
+ *     calls_cost WORD ROUNDS [lock [parked]]
  *
  * send1, fan16, big, fanbig: a message of 64 or 32768 bytes to 1 or 16 pipes, received on each.
  * zc: a buffer of 64 bytes is asked for, written, sent as it lies, and received on 1 pipe.
  * table: 16384 bytes are loaded, and read by an address. With `lock` a mutex is taken round each
- * call, as a program with threads has it.
+ * call, as a program with threads has it, and with `parked` there is a second thread, which sleeps.
  */
 #include "fsw.h"
 
@@ -15,6 +15,7 @@
 #include <stdio.h>
 #include <stdlib.h>
 #include <string.h>
+#include <unistd.h>
 
 /* So that a round is one piece of code, as plain_bus's is, without a test for the lock. */
 #define ALWAYS_INLINE static inline __attribute__((always_inline))
@@ -148,11 +149,20 @@ ALWAYS_INLINE unsigned long carry(bool has_lock, const char *word, unsigned long
     return 0;
 }
 
+static void *park(void *nothing)
+{
+    pause();
+    return nothing;
+}
+
 int main(int argc, char **argv)
 {
     const char *word = argc > 1 ? argv[1] : "";
     unsigned long rounds = argc > 2 ? strtoul(argv[2], NULL, 10) : 0;
     struct fsw_limits limits = FSW_USUAL_LIMITS;
+    pthread_t other;
+    if (argc > 4 && strcmp(argv[4], "parked") == 0 && pthread_create(&other, NULL, park, NULL) != 0)
+        return 1;
     if (fsw_open(&core, &limits) != FSW_SUCCESS)
         return 1;
     bool has_lock = argc > 3 && strcmp(argv[3], "lock") == 0;

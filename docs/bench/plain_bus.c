@@ -4,13 +4,15 @@
  * peaks, gives each id its own sequence count, and each subscription its limit. It writes no journal and tells no event.
  * Build with cc -O2 -pthread.
  *
- *     plain_bus WORD ROUNDS [APPLICATIONS]
+ *     plain_bus WORD ROUNDS [APPLICATIONS [parked]]
  *
  * send1, fan16    a message of 64 bytes is sent to 1 or 16 pipes, and received on each
  * big, fanbig     the same with 32768 bytes
  * zc              a buffer of 64 bytes is asked for, written, sent as it lies, and received on 1 pipe
  * table           16384 bytes are loaded into a table, its address is taken, a byte is read, and the address goes back
  * port1, port16   as send1 and fan16, by 1, 2 or 4 applications, each of several on a thread of its own and with ids of its own
+ *
+ * With `parked` a second thread sleeps meanwhile: some C libraries leave a mutex's atomic steps out while a process has one thread.
  */
 #include <pthread.h>
 #include <stdbool.h>
@@ -18,6 +20,7 @@
 #include <stdio.h>
 #include <stdlib.h>
 #include <string.h>
+#include <unistd.h>
 
 /* So that what is known of a share where it is made is known in its rounds. */
 #define ALWAYS_INLINE static inline __attribute__((always_inline))
@@ -513,6 +516,12 @@ static unsigned long carry_by(uint32_t apps, struct share share)
     return received;
 }
 
+static void *park(void *nothing)
+{
+    pause();
+    return nothing;
+}
+
 static void open_bus(void)
 {
     pthread_mutex_init(&bus.mutex, NULL);
@@ -534,7 +543,10 @@ int main(int argc, char **argv)
     uint32_t apps = argc <= 3 ? 1 : strcmp(argv[3], "4") == 0 ? 4 : strcmp(argv[3], "2") == 0 ? 2 : 1;
     struct share share = {.rounds = rounds};
     unsigned long received = 0;
+    pthread_t other;
 
+    if (argc > 4 && strcmp(argv[4], "parked") == 0 && pthread_create(&other, NULL, park, NULL) != 0)
+        return 1;
     open_bus();
     for (size_t i = 0; i < sizeof sends / sizeof sends[0]; i++) {
         if (strcmp(word, sends[i].word) == 0) {
