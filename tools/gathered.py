@@ -18,6 +18,18 @@ MODULE = re.compile(r"^(#\[cfg\(test\)\]\n)?mod (\w+);$", re.M)
 NO_PROCESSOR = "none"
 # The crate is there for its tests, but only a program may name a processor.
 MAIN = "fn main(_: HostRuntime) {}\n"
+PROGRAM_CRATE = "host_run"
+# The modules of the program that the word `lockstep` needs, and the crates; in the place of its memory, what a status
+# has of it.
+ROTATING = ("fault_line", "reading", "reporting", "status")
+ROTATING_USES = ("app_run", "run_report", "tbl_file")
+MEMORY = """
+/// That memory was refused.
+#[derive(Clone, Copy, Debug, PartialEq, Eq)]
+pub struct MemoryRefusal {
+    _refused: (),
+}
+"""
 
 
 def root_of(crate):
@@ -62,17 +74,48 @@ def build_file(name, below):
     return "\n".join([*lines, f"    deps = {json.dumps(labels)},", ")", ""])
 
 
-def lay_out(folder, name, crates, tested, rest=""):
-    """Writes a crate of this name to a new repository in this folder: the modules of these crates,
-    of those that are `tested` with their tests, and behind them the text `rest`. Where the crate is."""
+def new_crate(folder, name):
+    """Makes a crate of this name in a new repository in this folder; where its sources are."""
     copy_crates(folder)
+    shutil.copy2(Path(TOP, "crates.txt"), folder)
     sources = Path(folder, "crates", name, "src")
     sources.mkdir(parents=True)
+    return sources
+
+
+def write_root(sources, below, lines, rest):
+    """Writes what a crate uses, and its root file; where the crate is."""
+    crate = sources.parent
+    Path(crate, "BUILD.bazel").write_text(build_file(crate.name, below), encoding="utf-8")
+    root = "\n".join(["#![tactic(auto)]", "", *lines, "", rest])
+    Path(sources, "main.rt").write_text(root, encoding="utf-8")
+    return crate
+
+
+def lay_out(folder, name, crates, tested, rest="", main=MAIN):
+    """Writes a crate of this name to a new repository in this folder: the modules of these crates,
+    of those that are `tested` with their tests, and behind them the text `rest`. Where the crate is."""
+    sources = new_crate(folder, name)
     lines = [line for crate in crates for line in add_modules(crate, sources, crate in tested)]
     uses = libraries()
     below = dict.fromkeys(it for crate in crates for it in uses[crate])
-    shutil.copy2(Path(TOP, "crates.txt"), folder)
-    Path(sources.parent, "BUILD.bazel").write_text(build_file(name, below), encoding="utf-8")
-    root = "\n".join(["#![tactic(auto)]", "", *lines, "", rest, MAIN])
-    Path(sources, "main.rt").write_text(root, encoding="utf-8")
-    return sources.parent
+    return write_root(sources, below, lines, f"{rest}\n{main}")
+
+
+def lay_out_whole(folder):
+    """Lays out the program with all its words; where it is."""
+    root = root_of(PROGRAM_CRATE).read_text(encoding="utf-8")
+    *_, last = MODULE.finditer(root)
+    return lay_out(folder, "whole", [PROGRAM_CRATE], [], root[last.end() :], "")
+
+
+def lay_out_rotating(folder):
+    """Lays out the program for the word `lockstep` alone; where it is."""
+    sources = new_crate(folder, "rotating")
+    for module in ROTATING:
+        shutil.copy2(Path(TOP, "crates", PROGRAM_CRATE, "src", f"{module}.rt"), sources)
+    Path(sources, "memory.rt").write_text(MEMORY, encoding="utf-8")
+    uses = libraries()
+    below = dict.fromkeys(name for it in ROTATING_USES for name in (it, *uses[it]))
+    lines = [f"mod {it};" for it in ("memory", *ROTATING)]
+    return write_root(sources, below, lines, Path(TOP, "tools", "rotating.main").read_text(encoding="utf-8"))

@@ -2,6 +2,7 @@
 
 What is wrong with either ends the run with status 3, as a faulty script does.
 """
+import re
 import sys
 
 from kit import tell
@@ -11,15 +12,32 @@ from report import NoReport, read_report
 FAULTY = 3
 
 
+def what_it_is(text):
+    """What is given in the place of a report, if it is seen at once."""
+    fault = re.fullmatch(rb"script:(\d+):(\w+)\n", text)
+    if fault:
+        return f"it is the fault of a script, {fault[2].decode()} in line {fault[1].decode()}, of which there is no run"
+    if not text.strip():
+        return "it is empty"
+    if text.startswith(b"== "):
+        return "it has the reports of several scripts, and each is taken alone"
+    if text.startswith(b"side 1\n"):
+        return "it has the reports of two buses, and each is taken alone"
+    if re.search(rb"(?m)^[ \t]*app \w+[ \t\r]*$", text) and not text.startswith(b"fsw "):
+        return "it is a script, of which ./fsw lockstep prints a report"
+    return ""
+
+
 def report_given():
     """The report on standard input."""
     if sys.stdin.isatty():
         tell("a report is read from standard input, as ./fsw lockstep FILE prints it")
         sys.exit(2)
+    text = sys.stdin.buffer.read()
     try:
-        return read_report(sys.stdin.buffer.read().decode("ascii"))
+        return read_report(text.decode("ascii"))
     except NoReport as error:
-        tell(f"standard input is no report: {error}")
+        tell(f"standard input is no report: {what_it_is(text) or error}")
     except UnicodeDecodeError as error:
         tell(f"standard input is no report: a byte at {error.start} isn't ASCII")
     sys.exit(FAULTY)
