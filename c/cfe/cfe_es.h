@@ -110,8 +110,18 @@ typedef struct CFE_ES_MemPoolStats {
     CFE_ES_BlockStats_t BlockStats[CFE_MISSION_ES_POOL_MAX_BUCKETS];
 } CFE_ES_MemPoolStats_t;
 
+#define CFE_ES_NO_MUTEX  false
+#define CFE_ES_USE_MUTEX true
+
 CFE_Status_t CFE_ES_PoolCreate(CFE_ES_MemHandle_t *PoolID, void *MemPtr, size_t Size);
 CFE_Status_t CFE_ES_PoolCreateNoSem(CFE_ES_MemHandle_t *PoolID, void *MemPtr, size_t Size);
+
+/* With block sizes of its own, each rounded up to one of the usual ones. */
+CFE_Status_t CFE_ES_PoolCreateEx(CFE_ES_MemHandle_t *PoolID, void *MemPtr, size_t Size,
+                                 uint16 NumBlockSizes, const size_t *BlockSizes, bool UseMutex);
+
+/* The pool's handle is none from now on, and nothing is written to its memory. */
+CFE_Status_t CFE_ES_PoolDelete(CFE_ES_MemHandle_t PoolID);
 
 /* These three answer the size that was asked for, if they aren't refused. */
 int32 CFE_ES_GetPoolBuf(CFE_ES_MemPoolBuf_t *BufPtr, CFE_ES_MemHandle_t PoolID, size_t Size);

@@ -80,12 +80,21 @@ struct pipe {
     struct pipe *next_asleep; /* the next pipe that has sleepers */
 };
 
-struct pool {
-    uint8_t *at; /* null: there is none, or its creator ends */
-    const struct app *creator;
+/* A block size of a pool, and its place among the core's. */
+struct pool_size {
     uint32_t size;
-    uint32_t sizes[BLOCK_SIZES];
-    uint32_t free[BLOCK_SIZES]; /* the first free block of each size, as its offset; 0: none */
+    uint32_t place;
+};
+
+struct pool {
+    uint8_t *at; /* null: there is none, it was deleted, or its creator ends */
+    const struct app *creator;
+    CFE_ES_MemHandle_t handle; /* the last one; MOST_POOLS more than the one before */
+    uint32_t size;             /* 0: the core has no such pool yet */
+    uint32_t requests_before;  /* by pools that had this place before */
+    uint32_t errors_before;
+    uint32_t sizes;
+    struct pool_size size_of[BLOCK_SIZES]; /* the largest first */
 };
 
 /* How far the load of a table has come that waits. */
@@ -361,7 +370,6 @@ static inline CFE_Status_t fsw_leave_bus(struct fsw_asked asked, uint32_t status
 
 /* Lets go what an application still has, before its end in the core; and its pipes, behind it. */
 void fsw_end_buffers(struct app *app);
-void fsw_end_blocks(struct app *app);
 void fsw_end_tables(struct app *app);
 void fsw_end_pipes(void);
 

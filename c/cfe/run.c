@@ -304,7 +304,6 @@ static uint32_t end_apps(void)
         struct app *app = &fsw_layer.app[i];
         if (app->is_ending && app->tasks == 0 && !app->has_ended) {
             fsw_end_buffers(app);
-            fsw_end_blocks(app);
             fsw_end_tables(app);
             fsw_end(&fsw_layer.core, app->number);
             fsw_end_pipes();

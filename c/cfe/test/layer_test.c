@@ -535,82 +535,6 @@ static void check_mutexes(void)
     CHECK(OS_MutSemDelete(id) == OS_SUCCESS && OS_MutSemDelete(id) == OS_ERR_INVALID_ID);
 }
 
-/* ---- Pools ---- */
-
-static CFE_ES_STATIC_POOL_TYPE(4096) memory;
-
-static void test_pools(void)
-{
-    CFE_ES_MemHandle_t pool;
-    CFE_ES_MemPoolBuf_t first, second, third;
-    CFE_ES_MemPoolStats_t stats;
-    check_mutexes();
-    CHECK_STATUS(CFE_ES_PoolCreate(&pool, NULL, 4096), CFE_ES_BAD_ARGUMENT);
-    CHECK_STATUS(CFE_ES_PoolCreate(&pool, memory.Data + 1, 4000), CFE_ES_BAD_ARGUMENT);
-    CHECK_STATUS(CFE_ES_PoolCreate(&pool, memory.Data, 8), CFE_ES_ERR_MEM_BLOCK_SIZE);
-    CHECK_STATUS(CFE_ES_PoolCreate(&pool, memory.Data, sizeof memory.Data), CFE_SUCCESS);
-    CHECK(CFE_ES_GetPoolBuf(&first, pool, 20) == 20);
-    CHECK(CFE_ES_GetPoolBuf(&second, pool, 500) == 500);
-    CHECK((uint8 *)first >= memory.Data && (uint8 *)second + 512 <= memory.Data + 4096);
-    CHECK((uintptr_t)first % 8 == 0 && (uint8 *)second >= (uint8 *)first + 32);
-    memset(first, 0xff, 32);
-    memset(second, 0xff, 512);
-    CHECK(CFE_ES_GetPoolBufInfo(pool, first) == 20 && CFE_ES_GetPoolBufInfo(pool, second) == 500);
-    CHECK_STATUS(CFE_ES_GetPoolBuf(&third, pool, 4096), CFE_ES_ERR_MEM_BLOCK_SIZE);
-    CHECK(!third);
-    CHECK_STATUS(CFE_ES_GetPoolBuf(&third, pool, SIZE_MAX), CFE_ES_ERR_MEM_BLOCK_SIZE);
-    CHECK_STATUS(CFE_ES_GetPoolBuf(&third, 9, 8), CFE_ES_ERR_RESOURCEID_NOT_VALID);
-    CHECK_STATUS(CFE_ES_GetPoolBuf(NULL, pool, 8), CFE_ES_BAD_ARGUMENT);
-    CHECK_STATUS(CFE_ES_PutPoolBuf(pool, &stats), CFE_ES_BUFFER_NOT_IN_POOL);
-    CHECK_STATUS(CFE_ES_PutPoolBuf(pool, memory.Data + 4095), CFE_ES_BUFFER_NOT_IN_POOL);
-    CHECK_STATUS(CFE_ES_PutPoolBuf(pool, (uint8 *)second + 8), CFE_ES_POOL_BLOCK_INVALID);
-    CHECK_STATUS(CFE_ES_PutPoolBuf(9, first), CFE_ES_ERR_RESOURCEID_NOT_VALID);
-    CHECK(CFE_ES_PutPoolBuf(pool, first) == 20);
-    CHECK_STATUS(CFE_ES_PutPoolBuf(pool, first), CFE_ES_POOL_BLOCK_INVALID);
-    CHECK_STATUS(CFE_ES_GetPoolBufInfo(pool, first), CFE_ES_POOL_BLOCK_INVALID);
-    CHECK(CFE_ES_GetPoolBuf(&third, pool, 32) == 32 && third == first);
-    CHECK_STATUS(CFE_ES_GetMemPoolStats(&stats, pool), CFE_SUCCESS);
-    CHECK(stats.PoolSize == 4096 && stats.NumBlocksRequested == 3 && stats.CheckErrCtr == 4);
-    CHECK(stats.NumFreeBytes == 4096 - 48 - 528);
-    CHECK(stats.BlockStats[2].BlockSize == 32 && stats.BlockStats[2].NumCreated == 1);
-    CHECK(stats.BlockStats[2].NumFree == 0 && stats.BlockStats[9].NumCreated == 1);
-    CHECK_STATUS(CFE_ES_GetMemPoolStats(NULL, pool), CFE_ES_BAD_ARGUMENT);
-    CHECK_STATUS(CFE_ES_GetMemPoolStats(&stats, 9), CFE_ES_ERR_RESOURCEID_NOT_VALID);
-    wait_for_phase(1);
-    /* The other application ended with four blocks, which are free again. */
-    CFE_ES_MemPoolBuf_t again[4];
-    do {
-        OS_TaskDelay(1);
-        CHECK_STATUS(CFE_ES_GetMemPoolStats(&stats, pool), CFE_SUCCESS);
-    } while (stats.BlockStats[4].NumFree < 4);
-    for (int i = 0; i < 4; i++) {
-        CHECK(CFE_ES_GetPoolBuf(&again[i], pool, 64) == 64);
-        memset(again[i], 0xaa, 64);
-        for (int k = 0; k < i; k++)
-            CHECK(again[i] != again[k]);
-    }
-    CHECK(CFE_ES_PutPoolBuf(pool, second) == 500);
-    /* One that writes past its block spoils what stands before the next; it is refused from then.
-     */
-    ((uint8 *)second)[-8] ^= 1;
-    CHECK_STATUS(CFE_ES_GetPoolBuf(&second, pool, 500), CFE_ES_ERR_MEM_BLOCK_SIZE);
-    CHECK(!second);
-    ((uint8 *)again[3])[-16] ^= 1;
-    CHECK_STATUS(CFE_ES_PutPoolBuf(pool, again[3]), CFE_ES_POOL_BLOCK_INVALID);
-}
-
-static void take_blocks(void)
-{
-    CFE_ES_MemPoolBuf_t buffer;
-    CFE_ES_MemPoolStats_t stats;
-    while (CFE_ES_GetMemPoolStats(&stats, 1) != CFE_SUCCESS || stats.CheckErrCtr < 4 ||
-           stats.NumBlocksRequested < 3)
-        OS_TaskDelay(1);
-    for (int i = 0; i < 4; i++)
-        CHECK(CFE_ES_GetPoolBuf(&buffer, 1, 50) == 50);
-    atomic_store(&phase, 1);
-}
-
 /* ---- Events ---- */
 
 static struct fsw_event_counts event_counts(void)
@@ -941,7 +865,7 @@ int main(int argc, char **argv)
     run("housekeeping", test_housekeeping, NULL, 0);
     run("waits", test_waits, answer_waits, 0);
     run("tasks", test_tasks, NULL, 0);
-    run("pools", test_pools, take_blocks, 0);
+    run("mutexes", check_mutexes, NULL, 0);
     run("events", test_events, NULL, 0);
     run("bus events", test_bus_events, NULL, 0);
     run("stop", go_on_until_stop, stop, 0);
