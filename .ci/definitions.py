@@ -9,7 +9,7 @@ The page explains by hand the definitions that carry the model. An entry there i
 at the head of its file, if it has none of its own; `--every CRATE` those of one crate.
 
 A public clause is a `requires` or `ensures` of a `pub fn`, or of a method of a public trait or of a trait's impl, and the
-`Value` of an `impl Model`, of a library or of `host_run`; the small programs have no callers. A name in it is resolved by the file's `ghost use` lines.
+`Value` of an `impl Model`, of a library; programs have no callers. A name in it is resolved by the file's `ghost use` lines.
 
 Without words the check fails if a cited definition has no comment, or if the page names what no file defines. `--mend` follows a
 definition that moved to another file, and takes out a name that is defined nowhere; it prints what it took out, since that has to be
@@ -268,7 +268,7 @@ def main():
     lines = PAGE.read_text().splitlines()
     needed = {}
     for crate in crates():
-        if (TOP / 'crates' / crate / 'src' / 'lib.rt').is_file() or crate == 'host_run':
+        if (TOP / 'crates' / crate / 'src' / 'lib.rt').is_file():
             for at, where, function, clause in cited(crate):
                 needed.setdefault(type_of(*at), (where, function, clause))
     faults = [f'{where}: {function}, {clause}: cites `{word}`, which crates/{crate}/specs/{name}.antt does not define'

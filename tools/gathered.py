@@ -18,9 +18,12 @@ MODULE = re.compile(r"^(#\[cfg\(test\)\]\n)?mod (\w+);$", re.M)
 NO_PROCESSOR = "none"
 # The crate is there for its tests, but only a program may name a processor.
 MAIN = "fn main(_: HostRuntime) {}\n"
+# What stands at the head of a root file, behind its comment.
+HEAD = "#![tactic(auto)]"
 PROGRAM_CRATE = "host_run"
-# The modules of the program that the word `lockstep` needs, and the crates; in the place of its memory, what a status
-# has of it.
+# The modules that the word `lockstep` needs, where they are, and what they use; in the place of the program's memory, what
+# a status has of it.
+ROTATING_CRATE = "host_serve"
 ROTATING = ("fault_line", "reading", "reporting", "status")
 ROTATING_USES = ("app_run", "run_report", "tbl_file")
 MEMORY = """
@@ -45,20 +48,16 @@ def copy_crates(folder):
     shutil.copy2(Path(TOP, "HANDLES"), folder)
 
 
-def add_modules(crate, sources, has_tests):
-    """Copies the modules of a crate beside those that are there; the lines that declare them. Those
-    that are for tests alone are left out where `has_tests` isn't set."""
+def add_modules(crate, sources):
+    """Copies the modules of a crate beside those that are there; the lines that declare them."""
     root = root_of(crate)
     modules = list(MODULE.finditer(root.read_text(encoding="utf-8")))
-    left_out = {found[2] for found in modules if found[1] and not has_tests}
     for path in root.parent.iterdir():
-        if path == root or path.stem in left_out:
-            continue
         if path.is_dir():
             shutil.copytree(path, sources / path.name)
-        else:
+        elif path != root:
             shutil.copy2(path, sources)
-    return [found[0] for found in modules if found[2] not in left_out]
+    return [found[0] for found in modules]
 
 
 def build_file(name, below):
@@ -87,33 +86,32 @@ def write_root(sources, below, lines, rest):
     """Writes what a crate uses, and its root file; where the crate is."""
     crate = sources.parent
     Path(crate, "BUILD.bazel").write_text(build_file(crate.name, below), encoding="utf-8")
-    root = "\n".join(["#![tactic(auto)]", "", *lines, "", rest])
+    root = "\n".join([HEAD, "", *lines, "", rest])
     Path(sources, "main.rt").write_text(root, encoding="utf-8")
     return crate
 
 
-def lay_out(folder, name, crates, tested, rest="", main=MAIN):
+def lay_out(folder, name, crates, rest="", rest_uses=()):
     """Writes a crate of this name to a new repository in this folder: the modules of these crates,
-    of those that are `tested` with their tests, and behind them the text `rest`. Where the crate is."""
+    with their tests, and behind them the text `rest`, which uses these crates. Where the crate is."""
     sources = new_crate(folder, name)
-    lines = [line for crate in crates for line in add_modules(crate, sources, crate in tested)]
+    lines = [line for crate in crates for line in add_modules(crate, sources)]
     uses = libraries()
-    below = dict.fromkeys(it for crate in crates for it in uses[crate])
-    return write_root(sources, below, lines, f"{rest}\n{main}")
+    below = dict.fromkeys([*(it for crate in crates for it in uses[crate]), *rest_uses])
+    return write_root(sources, below, lines, f"{rest}\n{MAIN}")
 
 
 def lay_out_whole(folder):
     """Lays out the program with all its words; where it is."""
     root = root_of(PROGRAM_CRATE).read_text(encoding="utf-8")
-    *_, last = MODULE.finditer(root)
-    return lay_out(folder, "whole", [PROGRAM_CRATE], [], root[last.end() :], "")
+    return write_root(new_crate(folder, "whole"), libraries()[PROGRAM_CRATE], [], root.partition(HEAD)[2])
 
 
 def lay_out_rotating(folder):
     """Lays out the program for the word `lockstep` alone; where it is."""
     sources = new_crate(folder, "rotating")
     for module in ROTATING:
-        shutil.copy2(Path(TOP, "crates", PROGRAM_CRATE, "src", f"{module}.rt"), sources)
+        shutil.copy2(Path(TOP, "crates", ROTATING_CRATE, "src", f"{module}.rt"), sources)
     Path(sources, "memory.rt").write_text(MEMORY, encoding="utf-8")
     uses = libraries()
     below = dict.fromkeys(name for it in ROTATING_USES for name in (it, *uses[it]))

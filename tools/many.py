@@ -16,7 +16,8 @@ from gathered import lay_out
 from kit import SECONDS, TOP, Case, tell, try_cases
 
 NAME = "all_tests"
-CRATE = "host_run"
+# What the tests that run groups of scripts use.
+USES = ("host_serve", "script_words", "fsw_base")
 # A group has at most so many scripts.
 MOST_SCRIPTS = 64
 # rt tells of each test in a line, of the end in another, and in a third how many passed.
@@ -73,7 +74,7 @@ class Groups:
         return self.folder / f"{name}.{ending}"
 
     def program(self):
-        """The text that stands behind the modules of the program."""
+        """The text of the tests that run them."""
         if not self.groups:
             return ""
         text = Path(TOP, "tools", "many_scripts.main").read_text(encoding="utf-8")
@@ -111,8 +112,8 @@ def run_tests(crates, groups, is_told):
     them: the status, and what rt said."""
     said = []
     with tempfile.TemporaryDirectory(prefix="fsw-tests-") as folder:
-        gathered = list(dict.fromkeys([*crates, *[CRATE] * bool(groups.names)]))
-        how = dict(cwd=lay_out(folder, NAME, gathered, crates, groups.program()), stdin=subprocess.DEVNULL)
+        uses = USES if groups.names else ()
+        how = dict(cwd=lay_out(folder, NAME, crates, groups.program(), uses), stdin=subprocess.DEVNULL)
         how.update(stdout=subprocess.PIPE, stderr=subprocess.STDOUT, text=True, errors="replace")
         with subprocess.Popen(["rt", "try", "--test", "--seconds", SECONDS], **how) as rt:
             for line in rt.stdout:

@@ -1,43 +1,14 @@
-//! The program: reads a script, runs its applications on the software bus and on Table Services,
-//! each on a thread of its own or all in rotation, and writes a report. It also
-//! checks reports, looks at table images and packs them.
+//! The program: `serve` of `host_serve`, on the words of the command line, standard input and
+//! standard output.
 #![tactic(auto)]
 
-mod audit;
-#[cfg(test)]
-mod bridge_tests;
-mod bridging;
-mod checking;
-mod fault_line;
-#[cfg(test)]
-mod image_tests;
-mod images;
-mod mem_audit;
-mod memory;
-#[cfg(test)]
-mod pool_tests;
-mod reading;
-mod reporting;
-#[cfg(test)]
-mod run_tests;
-mod serve;
-#[cfg(test)]
-mod serve_tests;
-mod status;
-mod table_copies;
-#[cfg(test)]
-mod tests;
-mod words;
-
-use crate::audit::NoAudit;
-use crate::serve::serve;
-use crate::status::NO_MEMORY;
-use crate::words::Words;
 use fsw_base::{OpenGate, StdSink, StdSource};
+use host_serve::NO_MEMORY;
+pub use host_serve::{Audit, HostStatus, MemAudit, NoAudit, Words, serve};
 use std::process::ExitCode;
 use std::{env, io};
 
-// Where a word of the command line can't be had, for another cause than memory.
+// The status if a word of the command line can't be had, for another cause than memory.
 const NO_WORDS: u8 = 9;
 
 fn main(rt: HostRuntime) -> ExitCode {

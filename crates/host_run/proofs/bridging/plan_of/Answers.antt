@@ -1,6 +1,0 @@
-use Rattle.host_run.specs.Serve.{made_through}
-use Rattle.host_run.proofs.PlanEnds.{none-plan}
-use Rattle.host_run.proofs.bridging.plan_of.Goals as goal
-
-pub returns-in-None-clause-end : goal.returns-in-None-clause-end
-returns-in-None-clause-end g c = λ audit. none-plan c.refusal.result _ (made_through c.args.sink.now audit)

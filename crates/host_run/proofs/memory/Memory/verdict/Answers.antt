@@ -1,5 +1,0 @@
-use Rattle.host_run.proofs.Ends.{some-of}
-use Rattle.host_run.proofs.memory.Memory.verdict.Goals as goal
-
-pub returns-clause-answer : goal.returns-clause-answer
-returns-clause-answer c = some-of c.check-taken.result c.note.result _ c.note.ensures.value c.check-taken.ensures

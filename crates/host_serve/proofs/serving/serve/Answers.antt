@@ -1,0 +1,5 @@
+use Rattle.host_serve.proofs.Served.{served}
+use Rattle.host_serve.proofs.serving.serve.Goals as goal
+
+pub returns : goal.returns
+returns g c = served _ _ _ _ c.serve_guarded.ensures
