@@ -38,7 +38,8 @@ use Rattle.report_check.specs.Parts.{parts_in}
 use Rattle.run_check.specs.Checks.{IsAnswer}
 use Rattle.run_check.specs.declared.judgement.Judgement.{Judgement}
 use Rattle.run_check.specs.declared.judgement.Judgement.TheVariants.{Yes, No}
-use Rattle.host_serve.specs.Images.{most_image, most_table, image_text, image_fault_text, packed_file}
+use Rattle.host_serve.specs.Images.{most_image, most_table}
+use Rattle.table_images.specs.Images.{image_text, image_fault_text, packed_file}
 use Rattle.tbl_file.specs.Image.{image_fault, name_in, offset_in, sub_in, table_in}
 use Rattle.tbl_file.specs.declared.image.ImageFault.{ImageFault}
 use Rattle.tbl_file.specs.declared.image.ImageFault.TheVariants as no_image

@@ -1,36 +1,24 @@
 //! Table images: writing what one is, and packing one.
-ghost use Rattle.std.specs.Prelude.{◌≡◌, ◌≤◌, ◌+◌, length, true, false, IsTrue, OnOk, OnErr};
-ghost use Rattle.fsw_base.specs.Outside.{Rose};
+ghost use Rattle.std.specs.Prelude.{◌≡◌, ◌≤◌, ◌+◌, length, false, IsTrue};
+ghost use Rattle.table_images.specs.Images.{image_text, packed_file};
 ghost use Rattle.tbl_file.specs.Image.{image_fault, is_table_name};
-ghost use Rattle.text_page.specs.Pieces.{Grew, CutShort};
 ghost use Rattle.host_serve.specs.Audit.{GuardedAudit};
-ghost use Rattle.host_serve.specs.Images.{image_text, image_fault_text, packed_file};
 ghost use Rattle.host_serve.specs.Serve.{Shows, Packs, EndsShown, EndsPacked, EndsNoImage, EndsText, MakesNothing, fed_through, made_through};
 ghost use Rattle.host_serve.specs.Status.{is_read_fault, is_write_fault};
 
 use crate::memory::Memory;
 use crate::reading::{Reading, read_all};
 use crate::status::HostStatus;
-use fsw_base::{Sink, SinkGuard, Source, SourceGuard, WriteFault, sum_of};
-use tbl_file::{FILE_HEADER_BYTES, HEADER_BYTES, Image, ImageFault, read_image, write_image};
-use text_page::{Page, finish, put, put_number, write_text};
+use fsw_base::{Sink, SinkGuard, Source, SourceGuard, WriteFault};
+use table_images::{Head, fill_packed, write_image_fault, write_image_line};
+use tbl_file::{HEADER_BYTES, Image, ImageFault, read_image};
+use text_page::write_text;
 
 // The most bytes of a table that `pack` takes: as many as a script has at most.
 const MAX_TABLE: usize = fsw_base::MAX_SCRIPT_BYTES;
 
 // The most bytes of an image that `image` takes.
 const MAX_IMAGE: usize = MAX_TABLE + HEADER_BYTES;
-
-/// What `pack` puts into the headers of an image, beside how many bytes the table has.
-#[derive(Drop)]
-pub(crate) struct Head<'a> {
-    /// The table's name, 1 to 39 visible ASCII characters.
-    pub(crate) name: &'a [u8],
-    /// Where in the table the bytes are loaded.
-    pub(crate) offset: u32,
-    /// What the file is of.
-    pub(crate) sub: u32,
-}
 
 /// Reads a table image of at most 1,048,692 bytes, and writes what it is:
 /// `name=NAME offset=N size=N sum=N sub=N`. By the code, memory is taken for the input alone.
@@ -92,39 +80,10 @@ fn tell_image<K: Sink>(sink: &mut SinkGuard<'_, K>, image: &Image<'_>) -> HostSt
     ensures no_read_fault { is_read_fault result ≡ false }
     ensures same_sink { sink.new.sink ≡ sink.old.sink }
 {
-    match write_shown(sink, image) {
+    match write_image_line(sink, image) {
         Ok(()) => HostStatus::Done,
         Err(WriteFault) => HostStatus::WriteFault,
     }
-}
-
-// Writes the line on an image. No write through this guard may have failed before.
-fn write_shown<K: Sink>(sink: &mut SinkGuard<'_, K>, image: &Image<'_>) -> Result<(), WriteFault>
-    requires none_failed { sink.old.failed ≡ false }
-    requires few { length image.now.bytes.now ≤ 1048576 }
-    ensures ok { OnOk result (Grew sink.old.written sink.new.written (image_text
-        image.now.name.now image.now.offset image.now.bytes.now image.now.sub)) }
-    ensures none_failed { OnOk result (sink.new.failed ≡ false) }
-    ensures err { OnErr result (CutShort sink.old.written sink.new.written (image_text
-        image.now.name.now image.now.offset image.now.bytes.now image.now.sub)) }
-    ensures failed { OnErr result (sink.new.failed ≡ true) }
-    ensures cause { OnErr result (Rose sink.old.faults sink.new.faults) }
-    ensures never_falls { sink.old.faults ≤ sink.new.faults }
-    ensures same_sink { sink.new.sink ≡ sink.old.sink }
-{
-    let mut page = Page::new();
-    put(sink, &mut page, b"name=");
-    put(sink, &mut page, image.name);
-    put(sink, &mut page, b" offset=");
-    put_number(sink, &mut page, image.offset);
-    put(sink, &mut page, b" size=");
-    put_number(sink, &mut page, image.bytes.len());
-    put(sink, &mut page, b" sum=");
-    put_number(sink, &mut page, sum_of(image.bytes));
-    put(sink, &mut page, b" sub=");
-    put_number(sink, &mut page, image.sub);
-    put(sink, &mut page, b"\n");
-    finish(sink, &mut page)
 }
 
 /// Reads a table's bytes, at most 1,048,576, and writes the image of them with this name, offset
@@ -212,32 +171,6 @@ fn write_packed<K: Sink>(
     tell_file(sink, &file)
 }
 
-// Fills the file of the image of these bytes, of which there is one at least.
-fn fill_packed(head: &Head<'_>, bytes: &[u8], file: &mut [u8])
-    requires name { IsTrue (is_table_name head.now.name.now) }
-    requires some { 1 ≤ length bytes.now }
-    requires few { length bytes.now ≤ 1048576 }
-    requires size { length file.old ≡ 116 + length bytes.now }
-    ensures { file.new ≡
-        packed_file head.now.name.now head.now.offset head.now.sub bytes.now }
-{
-    let image = Image {
-        sub: head.sub,
-        length: FILE_HEADER_BYTES as u32,
-        spacecraft: 0,
-        processor: 0,
-        application: 0,
-        seconds: 0,
-        subseconds: 0,
-        description: &[0; 32],
-        reserved: 0,
-        offset: head.offset,
-        name: head.name,
-        bytes,
-    };
-    write_image(&image, file);
-}
-
 // Writes the file of an image, behind which nothing is left to do.
 fn tell_file<K: Sink>(sink: &mut SinkGuard<'_, K>, file: &[u8]) -> HostStatus
     requires { sink.old.failed ≡ false }
@@ -268,26 +201,4 @@ fn refuse_image<K: Sink>(sink: &mut SinkGuard<'_, K>, fault: ImageFault) -> Host
         Ok(()) => HostStatus::Image(fault),
         Err(WriteFault) => HostStatus::WriteFault,
     }
-}
-
-// Writes the line of a fault: `image:NAME`. No write through this guard may have failed before.
-fn write_image_fault<K: Sink>(
-    sink: &mut SinkGuard<'_, K>,
-    fault: ImageFault,
-) -> Result<(), WriteFault>
-    requires { sink.old.failed ≡ false }
-    ensures ok { OnOk result (Grew sink.old.written sink.new.written (image_fault_text fault)) }
-    ensures none_failed { OnOk result (sink.new.failed ≡ false) }
-    ensures err { OnErr result
-        (CutShort sink.old.written sink.new.written (image_fault_text fault)) }
-    ensures failed { OnErr result (sink.new.failed ≡ true) }
-    ensures cause { OnErr result (Rose sink.old.faults sink.new.faults) }
-    ensures never_falls { sink.old.faults ≤ sink.new.faults }
-    ensures same_sink { sink.new.sink ≡ sink.old.sink }
-{
-    let mut page = Page::new();
-    put(sink, &mut page, b"image:");
-    put(sink, &mut page, fault.name().as_bytes());
-    put(sink, &mut page, b"\n");
-    finish(sink, &mut page)
 }

@@ -13,7 +13,7 @@ use crate::audit::{Audit, AuditGuard};
 use crate::bridging::serve_bridge;
 use crate::checking::check_input;
 use crate::fault_line::{TOO_LARGE, refuse};
-use crate::images::{Head, pack, show_image};
+use crate::images::{pack, show_image};
 use crate::memory::Memory;
 use crate::reading::{Reading, read_all};
 use crate::reporting::{Part, write_part};
@@ -28,6 +28,7 @@ use script_text::print_script;
 use std::alloc::Global;
 use std::sync::Wait;
 use std::thread::Threads;
+use table_images::Head;
 use tbl_load::TblCore;
 use text_page::write_text;
 

@@ -1,5 +1,5 @@
 use Rattle.std.proofs.Common.{◌≡◌, sym, subst, ◌∙◌}
-use Rattle.host_serve.specs.Images.{packed_file}
+use Rattle.table_images.specs.Images.{packed_file}
 use Rattle.host_serve.specs.Serve.{EndsText, MakesNothing, made_through}
 use Rattle.host_serve.specs.declared.status.HostStatus.TheVariants.{Done}
 use Rattle.host_serve.proofs.Numbers.{all_filled}

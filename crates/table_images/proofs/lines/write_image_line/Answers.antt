@@ -1,8 +1,8 @@
 use Rattle.std.proofs.Common.{append-nil, ap, decimal, ◌∙◌}
 use Rattle.std.proofs.lemmas.Result.{on_err_weaker}
-use Rattle.host_serve.specs.Images.{image_text}
+use Rattle.table_images.specs.Images.{image_text}
 use Rattle.text_page.proofs.PieceTexts.{◌▸◌, on_ok_both, puts_as, puts_never_falls, puts_part, puts_rose, puts_whole}
-use Rattle.host_serve.proofs.images.write_shown.Goals as goal
+use Rattle.table_images.proofs.lines.write_image_line.Goals as goal
 
 pub returns : goal.returns
 returns g c =

@@ -1,9 +1,9 @@
 use Rattle.std.proofs.Common.{append-nil, ◌∙◌}
 use Rattle.std.proofs.lemmas.Result.{on_err_weaker}
 use Rattle.tbl_file.specs.FaultNames.{image_fault_name}
-use Rattle.host_serve.specs.Images.{image_fault_text}
+use Rattle.table_images.specs.Images.{image_fault_text}
 use Rattle.text_page.proofs.PieceTexts.{◌▸◌, on_ok_both, puts_as, puts_never_falls, puts_part, puts_rose, puts_whole}
-use Rattle.host_serve.proofs.images.write_image_fault.Goals as goal
+use Rattle.table_images.proofs.lines.write_image_fault.Goals as goal
 
 pub returns : goal.returns
 returns g c =

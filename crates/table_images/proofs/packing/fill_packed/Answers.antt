@@ -1,5 +1,5 @@
 use Rattle.tbl_file.specs.Image.{image_file}
-use Rattle.host_serve.proofs.images.fill_packed.Goals as goal
+use Rattle.table_images.proofs.packing.fill_packed.Goals as goal
 
 pub returns : goal.returns
 unfolding image_file
