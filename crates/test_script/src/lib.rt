@@ -13,6 +13,4 @@ mod line_spelling_tests;
 #[cfg(test)]
 mod script_generate_tests;
 #[cfg(test)]
-mod script_lines_tests;
-#[cfg(test)]
 mod script_printing_tests;

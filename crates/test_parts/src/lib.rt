@@ -1,0 +1,25 @@
+//! Tests of single crates, over their public calls: each shows once what no clause says. Standard
+//! input and output answer, packets come from outside, threads sleep and wake, views are read on
+//! other threads, a pool is right over a long run, a type has its size.
+//!
+//! They are apart, so that a change of them proves nothing anew of what they test, and each crate
+//! is proved without them. What the program prints is shown by `rows_runs`, and what needs its
+//! `serve` by `test_run`.
+#![tactic(auto)]
+
+#[cfg(test)]
+mod callers;
+#[cfg(test)]
+mod ccsds_msg_tests;
+#[cfg(test)]
+mod es_pool_tests;
+#[cfg(test)]
+mod fsw_base_tests;
+#[cfg(test)]
+mod housekeeping_tests;
+#[cfg(test)]
+mod lend_block_tests;
+#[cfg(test)]
+mod script_lines_tests;
+#[cfg(test)]
+mod turn_lock_tests;
