@@ -8,8 +8,8 @@ use fsw_base::{Sink, SinkGuard, WriteFault, sum_of};
 use tbl_file::{Image, ImageFault};
 use text_page::{Page, finish, put, put_number};
 
-/// Writes the line on an image: `name=NAME offset=N size=N sum=N sub=N`. No write through this guard
-/// may have failed before.
+/// Writes the line on an image: `name=NAME offset=N size=N sum=N sub=N`. No write through this
+/// guard may have failed before.
 ///
 /// # Errors
 /// `WriteFault` only if a write failed, so that the sink's count of faults rose in this call, or

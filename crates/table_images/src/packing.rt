@@ -16,8 +16,8 @@ pub struct Head<'a> {
     pub sub: u32,
 }
 
-/// Fills the file of the image of these bytes, of which there is one at least and 1,048,576 at most.
-/// Its header says that it has 64 bytes, and all else in it is zero.
+/// Fills the file of the image of these bytes, of which there is one at least and 1,048,576 at
+/// most. Its header says that it has 64 bytes, and all else in it is zero.
 pub fn fill_packed(head: &Head<'_>, bytes: &[u8], file: &mut [u8])
     requires name { IsTrue (is_table_name head.now.name.now) }
     requires some { 1 ≤ length bytes.now }
