@@ -1,5 +1,8 @@
 """Proves the crates that the program is made of, several at a time, and builds it; then the library for C.
 
+    build.py                     the program, and the library for x86-64
+    build.py x86_64 | aarch64    the library for that processor, and no crate that it doesn't need
+
 How far it is stands in one line on standard error, which is kept up to date on a terminal;
 elsewhere there is a line for each crate. What the prover prints goes to a file. What is proved
 stays, so a build that was interrupted goes on where it was.
@@ -8,6 +11,7 @@ import contextlib
 import fcntl
 import os
 import re
+import shutil
 import signal
 import subprocess
 import sys
@@ -20,12 +24,16 @@ from kit import CRATE, PROGRAM, TOP, stop_without_kit, tell
 OUT = os.path.dirname(PROGRAM)
 LOG = os.path.join(OUT, "build.log")
 LIBRARY = os.path.join(TOP, "crates", "fsw_c")
+# rt makes the library for each processor in the place of that for x86-64.
+MADE = os.path.join(LIBRARY, "out", "libfsw_c.a")
+TRIPLES = {"x86_64": "x86_64-unknown-linux-gnu", "aarch64": "aarch64-unknown-linux-gnu"}
 BEGAN = os.path.join(OUT, "build.began")
 # What a proof takes of memory, in bytes, with some room.
 MEMORY = 3 << 30
 EXPECTED = "from nothing it takes over 45 minutes on four processors"
 PROVED = re.compile("logic=proved ")
 NEXT = "./fsw lockstep < examples/first.fsw"
+NEXT_FOR_LIBRARY = {"x86_64": "make -C c", "aarch64": "make -C c TARGET=aarch64-linux-gnu"}
 
 
 def libraries():
@@ -39,7 +47,7 @@ def libraries():
     return uses
 
 
-def crates_in_order():
+def crates_in_order(top=os.path.basename(CRATE)):
     """The crates of the program, each with those below it, in the order in which rt takes them."""
     uses = libraries()
 
@@ -50,7 +58,6 @@ def crates_in_order():
                 found.update(dict.fromkeys([*below(library), library]))
         return list(found)
 
-    top = os.path.basename(CRATE)
     names = sorted([*below(top), top], key=lambda name: len(below(name)))
     return {name: below(name) for name in names}
 
@@ -129,6 +136,70 @@ class Progress:
         tell(text)
 
 
+class LibraryProgress(Progress):
+    """The same line while rt proves what the library needs, a crate after the other."""
+
+    def count(self):
+        return f"{len(self.proved)} crates proved"
+
+    def look(self, log):
+        """rt names a crate as it begins, and none that stands proved."""
+        self.said += log.read()
+        parts = re.split(r"^rt: chose --jobs \d+ for (\w+)\n", self.said, flags=re.M)
+        self.waits = bool(re.search(r"^rt: .*waiting for", parts[-1], re.M))
+        begun = list(zip(parts[1::2], parts[2::2]))
+        for name, said in begun:
+            if name not in self.proved and any(map(PROVED.match, said.splitlines())):
+                self.proved.append(name)
+                if not self.is_terminal:
+                    tell(f"{self.time()}, {self.count()}: {name}")
+        self.show(f"{self.count()}, now {begun[-1][0] if begun else 'the sources are read'}")
+
+
+def library_of(target):
+    """Where the library for this processor is kept."""
+    folders = [] if target == "x86_64" else [target]
+    return os.path.join(LIBRARY, "out", *folders, os.path.basename(MADE))
+
+
+def put_back():
+    """Gives the library for x86-64 its place again, also after a build that was killed."""
+    aside = f"{MADE}.aside"
+    with contextlib.suppress(FileNotFoundError):
+        os.replace(aside, MADE)
+        if os.path.getsize(MADE) == 0:
+            os.remove(MADE)
+
+
+@contextlib.contextmanager
+def put_aside():
+    """Keeps the library for x86-64 from what rt makes in its place meanwhile; an empty file says that there is none."""
+    copy, aside = f"{MADE}.copy", f"{MADE}.aside"
+    os.makedirs(os.path.dirname(aside), exist_ok=True)
+    if os.path.exists(MADE):
+        shutil.copy2(MADE, copy)
+    else:
+        open(copy, "wb").close()
+    os.replace(copy, aside)
+    try:
+        yield
+    finally:
+        put_back()
+
+
+def make_library(look, target):
+    """The status of rt, which proves and builds the library for this processor."""
+    place = library_of(target)
+    if target == "x86_64":
+        return run(["lib"], subprocess.DEVNULL, look, LIBRARY)
+    with put_aside():
+        failed = run(["lib", "--target", TRIPLES[target]], subprocess.DEVNULL, look, LIBRARY)
+        if not failed:
+            os.makedirs(os.path.dirname(place), exist_ok=True)
+            os.replace(MADE, place)
+    return failed
+
+
 def run(words, script, look, folder=CRATE):
     """The status of rt with these words in this crate; all that it prints is added to the log."""
     with open(LOG, "ab") as log, open(LOG, encoding="utf-8", errors="replace") as said:
@@ -163,20 +234,22 @@ def build(progress):
             return "the program could not be built"
     if os.path.isdir(LIBRARY):
         show = lambda _: progress.show("the library for C")
-        if run(["lib"], subprocess.DEVNULL, show, LIBRARY):
+        if make_library(show, "x86_64"):
             return "the library for C could not be built"
     return ""
 
 
-def build_alone():
-    """Builds, where no other build is at work here; the status of the run."""
-    crates, at_once = crates_in_order(), lanes()
-    tell(f"proving {len(crates)} crates, {at_once} at a time; {EXPECTED}")
-    progress = Progress(crates, at_once)
+def build_library(progress, target):
+    """Proves and builds the library for this processor; says what failed, or nothing."""
+    return "the library for C could not be built" if make_library(progress.look, target) else ""
+
+
+def told_ends(progress, make, made, text):
+    """Makes the file, tells how that ended, and gives the status of the run."""
     open(LOG, "wb").close()
     os.utime(BEGAN)
     try:
-        failed = build(progress)
+        failed = make()
     except KeyboardInterrupt:
         so_far = f"interrupted at {progress.time()}, {progress.count()}"
         progress.end(f"{so_far}: ./fsw build goes on from there")
@@ -184,10 +257,26 @@ def build_alone():
     if failed:
         progress.end(f"{failed}: what the prover says is in {os.path.relpath(LOG)}")
         return 1
-    # The program is as old as the build's beginning, so that a change meanwhile counts as newer.
-    os.utime(PROGRAM, ns=(os.stat(BEGAN).st_mtime_ns,) * 2)
-    progress.end(f"the program is proved and built, in {progress.time()}: {NEXT}")
+    # It is as old as the build's beginning, so that a change meanwhile counts as newer.
+    os.utime(made, ns=(os.stat(BEGAN).st_mtime_ns,) * 2)
+    progress.end(text())
     return 0
+
+
+def build_alone(target=None):
+    """Builds, where no other build is at work here; the status of the run."""
+    put_back()
+    if target:
+        crates = crates_in_order(os.path.basename(LIBRARY))
+        tell(f"proving of {len(crates)} crates, one at a time, those that aren't proved yet")
+        progress = LibraryProgress(crates, 1)
+        text = lambda: f"the library is proved and built, in {progress.time()}: {NEXT_FOR_LIBRARY[target]}"
+        return told_ends(progress, lambda: build_library(progress, target), library_of(target), text)
+    crates, at_once = crates_in_order(), lanes()
+    tell(f"proving {len(crates)} crates, {at_once} at a time; {EXPECTED}")
+    progress = Progress(crates, at_once)
+    text = lambda: f"the program is proved and built, in {progress.time()}: {NEXT}"
+    return told_ends(progress, lambda: build(progress), PROGRAM, text)
 
 
 def main():
@@ -202,7 +291,7 @@ def main():
         except BlockingIOError:
             tell("another ./fsw build is at work here: wait for it to end")
             return 1
-        return build_alone()
+        return build_alone(*sys.argv[1:])
 
 
 if __name__ == "__main__":
