@@ -2,7 +2,9 @@
 """Builds the programs of docs/C.md and docs/CFE.md as a user does, against what `make install` left in FOLDER, and runs them: by
 pkg-config and, if it is installed, by CMake, as a project outside of the repository. So also the folder to copy, with its test.
 
-    c_pages.py FOLDER      PKG_CONFIG_PATH leads to its pkg-config files
+    c_pages.py FOLDER [COMPILER RUN ..]
+
+PKG_CONFIG_PATH leads to its pkg-config files. For another processor COMPILER compiles, and RUN .. runs what it made.
 """
 import re
 import shutil
@@ -11,6 +13,9 @@ import sys
 from pathlib import Path
 
 TOP = Path(__file__).resolve().parent.parent
+COMPILER, RUN = (sys.argv[2:3] or ['gcc'])[0], sys.argv[3:]
+# What CMake is told of another processor.
+CROSS = [f'-DCMAKE_C_COMPILER={COMPILER}', '-DCMAKE_SYSTEM_NAME=Linux', f'-DCMAKE_CROSSCOMPILING_EMULATOR={";".join(RUN)}']
 # A project outside of the repository; VERSION is filled in.
 PROJECT = """cmake_minimum_required(VERSION 3.16)
 project(outside C)
@@ -50,8 +55,8 @@ def built(folder, name, sources, words):
     for number, text in enumerate(sources):
         names.append(folder / f'{name}{number}.c')
         names[-1].write_text(text, encoding='utf-8')
-    subprocess.run(['gcc', '-Wall', '-Wextra', '-Werror', *names, *words, '-o', folder / name], check=True)
-    return subprocess.run([folder / name], capture_output=True, text=True, check=True, timeout=60).stdout
+    subprocess.run([COMPILER, '-Wall', '-Wextra', '-Werror', *names, *words, '-o', folder / name], check=True)
+    return subprocess.run([*RUN, folder / name], capture_output=True, text=True, check=True, timeout=60).stdout
 
 
 def refuses_another_version(folder, first):
@@ -60,21 +65,22 @@ def refuses_another_version(folder, first):
     (folder / 'other').mkdir()
     (folder / 'other' / 'fsw.h').write_text(header.replace('define FSW_VERSION ', 'define FSW_VERSION 9'), encoding='utf-8')
     (folder / 'other.c').write_text(first, encoding='utf-8')
-    run('gcc', '-I', folder / 'other', folder / 'other.c', *package('fsw'), '-o', folder / 'other_version')
-    told = subprocess.run([folder / 'other_version'], capture_output=True, text=True, check=False)
+    run(COMPILER, '-I', folder / 'other', folder / 'other.c', *package('fsw'), '-o', folder / 'other_version')
+    told = subprocess.run([*RUN, folder / 'other_version'], capture_output=True, text=True, check=False)
     return (told.returncode, told.stdout) == (1, 'refused: FSW_OTHER_VERSION\n')
 
 
 def copies_template(folder):
     """The folder to copy, by make."""
     shutil.copytree(folder / 'share' / 'fsw' / 'template', folder / 'copied')
-    if 'hello_test: passed\n' not in run('make', '-C', folder / 'copied', 'CFLAGS=-O2 -Wall -Wextra -Werror', 'test'):
+    run('make', '-C', folder / 'copied', f'CC={COMPILER}', 'CFLAGS=-O2 -Wall -Wextra -Werror', 'all')
+    if 'hello_test: passed\n' not in run(*RUN, './hello_test', cwd=folder / 'copied'):
         sys.exit("c_pages: the template's test fails")
 
 
 def configured(source, build, folder):
     """Whether CMake finds the library for this project."""
-    words = ['cmake', '-S', source, '-B', build, f'-DCMAKE_PREFIX_PATH={folder}']
+    words = ['cmake', '-S', source, '-B', build, f'-DCMAKE_PREFIX_PATH={folder}', *(CROSS if RUN else [])]
     return subprocess.run(words, capture_output=True, check=False).returncode == 0
 
 
@@ -92,7 +98,7 @@ def builds_by_cmake(folder, programs_of_it):
     build = outside / f'build{version}'
     run('cmake', '--build', build)
     for name, _, wanted in [*programs_of_it, ('over_arena', '', programs_of_it[0][2])]:
-        if run(build / name) != wanted:
+        if run(*RUN, build / name) != wanted:
             sys.exit(f'c_pages: by CMake {name} prints something else')
     if not configured(folder / 'copied', folder / 'copied' / 'build', folder):
         sys.exit("c_pages: the template isn't configured by CMake")

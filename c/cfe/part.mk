@@ -15,7 +15,7 @@ BENCHES += $(BUILD)/layer_cost
 TESTS += $(addprefix $(BUILD)/,layer_test services_test services_test.address layer_test.address layer_test.thread pools_test pools_test.address pools_test.thread tables_test tables_test.address tables_test.thread priority_test faults_test faults_test.address faults_test.thread threads_test threads_test.thread soak_test)
 
 # C++ is tried where it is installed.
-TESTS += $(if $(shell command -v g++),$(BUILD)/cpp_test)
+TESTS += $(if $(shell command -v $(CXX)),$(BUILD)/cpp_test)
 
 $(BUILD)/%.o: cfe/%.c $(HEADERS) | $(BUILD)
 	$(COMPILE) -pthread -c $< -o $@
@@ -25,13 +25,13 @@ $(BUILD)/%.o: cfe/test/%.c $(HEADERS) | $(BUILD)
 
 $(BUILD)/libfsw_cfe.a: $(CFE_OBJECTS)
 	rm -f $@
-	ar rcs $@ $^
+	$(AR) rcs $@ $^
 
 $(BUILD)/%_test: $(BUILD)/%_test.o $(CFE)
 	$(CC) $(CFLAGS) -pthread -o $@ $^
 
 $(BUILD)/cpp_test: cfe/test/cpp_test.cpp $(CFE) $(HEADERS)
-	g++ $(CFLAGS) -Wall -Wextra -std=c++17 $(INCLUDES) -pthread -o $@ $< $(CFE)
+	$(CXX) $(CFLAGS) -Wall -Wextra -std=c++17 $(INCLUDES) -pthread -o $@ $< $(CFE)
 
 $(BUILD)/layer_cost: bench/layer_cost.c $(CFE) $(HEADERS)
 	$(COMPILE) -pthread -o $@ $< $(CFE)

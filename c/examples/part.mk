@@ -7,12 +7,14 @@ SAMPLE = sample_test sample_app
 TEN = $(patsubst examples/ten_apps/%.c,%,$(wildcard examples/ten_apps/*.c))
 objects = $(patsubst %,$(BUILD)/%$(2).o,$($(1)))
 
-# Processes are joined by ZeroMQ, where it is installed.
-HAS_ZMQ = $(wildcard /usr/include/zmq.h)
+# Processes are joined by ZeroMQ, where it is installed; for another processor it is in SYSROOT.
+HAS_ZMQ = $(if $(IS_FOREIGN),$(and $(SYSROOT),$(wildcard $(SYSROOT)/usr/include/zmq.h)),$(wildcard /usr/include/zmq.h))
+ZMQ_PLACES = $(addprefix $(SYSROOT),/usr/lib/$(TARGET) /lib/$(TARGET))
+ZMQ = $(if $(IS_FOREIGN),$(addprefix -L,$(ZMQ_PLACES)) $(addprefix -Wl$(comma)-rpath-link$(comma),$(ZMQ_PLACES))) -lzmq
 
 INSTALLED_SHARE += examples/template
 
-INCLUDES += -Iexamples
+INCLUDES += -Iexamples $(if $(IS_FOREIGN),$(addprefix -isystem ,$(SYSROOT:=/usr/include)))
 HEADERS += $(wildcard examples/*.h examples/ten_apps/*.h)
 ANALYZED += $(wildcard examples/template/*.c examples/ten_apps/*.c)
 ANALYZED += $(addprefix examples/,my_app.c two_apps.c sample_app_tbl.c $(addsuffix .c,$(MISSION) $(if $(HAS_ZMQ),$(NODE))))
@@ -61,10 +63,10 @@ $(BUILD)/sample_test.thread: $(call objects,SAMPLE,.thread) $(THREAD_CFE)
 	$(CC) $(THREAD) -pthread -o $@ $^
 
 $(BUILD)/sbn_node: $(call objects,NODE) $(CFE)
-	$(CC) $(CFLAGS) -pthread -o $@ $^ -lzmq
+	$(CC) $(CFLAGS) -pthread -o $@ $^ $(ZMQ)
 
 $(BUILD)/sbn_node.address: $(call objects,NODE,.address) $(ADDRESS_CFE)
-	$(CC) $(ADDRESS) -pthread -o $@ $^ -lzmq
+	$(CC) $(ADDRESS) -pthread -o $@ $^ $(ZMQ)
 
 $(BUILD)/sbn_node.thread: $(call objects,NODE,.thread) $(THREAD_CFE)
-	$(CC) $(THREAD) -pthread -o $@ $^ -lzmq
+	$(CC) $(THREAD) -pthread -o $@ $^ $(ZMQ)

@@ -14,7 +14,7 @@ $(BUILD)/%.o: osal/%.c $(HEADERS) | $(BUILD)
 
 $(BUILD)/libfsw_osal.a: $(BUILD)/osapi.o
 	rm -f $@
-	ar rcs $@ $^
+	$(AR) rcs $@ $^
 
 # Applications over another OS layer, whose headers stand first. Nothing of osal/ is compiled or linked.
 OTHER = osal/test/other_osal_test.c osal/test/other/other_osal.c

@@ -3,12 +3,16 @@ figures are the same, and bytes that are held stay.
 
     random_calls.py MODEL LIBRARY.so LISTS [CALLS [FIRST]]
 
-MODEL is the model's file. LIBRARY.so has the exports of fsw.h. A list that differs is named by its number: it is made again
-by `random_calls.py MODEL LIBRARY.so 1 CALLS NUMBER`.
+MODEL is the model's file. LIBRARY.so has the exports of fsw.h; of another processor it is the command that runs calls_server
+there, as one word. A list that differs is named by its number: it is made again by
+`random_calls.py MODEL LIBRARY.so 1 CALLS NUMBER`.
 """
 import ctypes
 import importlib.util
 import random
+import shlex
+import struct as packing
+import subprocess
 import sys
 
 U8, U16, U32, U64 = ctypes.c_uint8, ctypes.c_uint16, ctypes.c_uint32, ctypes.c_uint64
@@ -78,6 +82,58 @@ def fields(value):
     return {name: getattr(value, name) for name, _ in value._fields_}
 
 
+class Here:
+    """The library in this process."""
+
+    def __init__(self, path):
+        self.calls, self.core = ctypes.CDLL(path), Core()
+
+    def call(self, name, words):
+        call = getattr(self.calls, 'fsw_raw_' + name)
+        call.restype = U32
+        return call(ctypes.byref(self.core), *words)
+
+    read = staticmethod(ctypes.string_at)
+    write = staticmethod(lambda at, data: ctypes.memmove(at, data, len(data)))
+
+
+class Served:
+    """The library behind calls_server."""
+
+    def __init__(self, command):
+        pipes = dict(stdin=subprocess.PIPE, stdout=subprocess.PIPE)
+        self.server = subprocess.Popen(shlex.split(command), **pipes)
+
+    def send(self, *parts):
+        self.server.stdin.write(b''.join(parts))
+        self.server.stdin.flush()
+
+    def call(self, name, words):
+        """A word is bytes, an array, what byref was given, or a number; what isn't bytes is written back."""
+        memory, sent = [], []
+        for word in words:
+            there = getattr(word, '_obj', word)
+            if there is not word or isinstance(word, (bytes, ctypes.Array)):
+                memory.append(there)
+                sent += [b'B', packing.pack('<Q', len(bytes(there))), bytes(there)]
+            else:
+                sent += [b'N', packing.pack('<Q', getattr(word, 'value', word))]
+        self.send(b'C', name.encode().ljust(24, b'\0'), bytes([len(words)]), *sent)
+        status, = packing.unpack('<I', self.server.stdout.read(4))
+        for there in memory:
+            data = self.server.stdout.read(len(bytes(there)))
+            if not isinstance(there, bytes):
+                ctypes.memmove(ctypes.byref(there), data, len(data))
+        return status
+
+    def read(self, at, length):
+        self.send(b'R', packing.pack('<QQ', at, length))
+        return self.server.stdout.read(length)
+
+    def write(self, at, data):
+        self.send(b'W', packing.pack('<QQ', at, len(data)), data)
+
+
 class Run:
     """One list of calls, on both."""
 
@@ -87,7 +143,6 @@ class Run:
         self.apps = self.draw.randint(1, 4)
         self.bus = model.Bus(self.cfg, self.apps)
         self.tables = model.Tables(self.cfg, self.apps)
-        self.core = Core()
         self.views = {}     # key: (address, bytes) of what is held
         self.pools = []     # by pool: grant: (offset, size), of those that are out
         self.buffers = []   # (application, size asked for, Buffer), of those that are out
@@ -108,9 +163,7 @@ class Run:
         return cfg
 
     def ask(self, name, *words):
-        call = getattr(self.library, 'fsw_raw_' + name)
-        call.restype = U32
-        return call(ctypes.byref(self.core), *words)
+        return self.library.call(name, words)
 
     # --- drawing
 
@@ -181,13 +234,13 @@ class Run:
         return answer
 
     def hold(self, key, at, data):
-        same(f'bytes of {key}', ctypes.string_at(at, len(data)), data)
+        same(f'bytes of {key}', self.library.read(at, len(data)), data)
         same(f'alignment of {key}', at % 8, 0)
         self.views[key] = (at, data)
 
     def check_views(self):
         for key, (at, data) in self.views.items():
-            same(f'held bytes of {key}', ctypes.string_at(at, len(data)), data)
+            same(f'held bytes of {key}', self.library.read(at, len(data)), data)
 
     def drop_views(self, test):
         self.views = {key: view for key, view in self.views.items() if not test(key)}
@@ -293,7 +346,7 @@ class Run:
         same('whether a buffer is out', buffer.is_out, int(bool(answer) and answer[0] == 'number'))
         if buffer.is_out:
             same('a block', (buffer.len, buffer.at % 8), (min(each for each in self.cfg.sizes if each >= size), 0))
-            same('a new buffer', ctypes.string_at(buffer.at, size), bytes(size))
+            same('a new buffer', self.library.read(buffer.at, size), bytes(size))
             same('a second one', self.ask('allocate_buffer', app, size, ctypes.byref(buffer)), BUFFER_OUT)
             self.buffers.append((app, size, buffer))
         return None
@@ -309,8 +362,8 @@ class Run:
         """Writes a message in place, and sends it or gives the buffer back."""
         owner, size, buffer = self.some_buffer(app)
         if buffer.is_out and self.draw.random() < 0.9:
-            ctypes.memmove(buffer.at, *(lambda data: (data, len(data)))(self.message()[:size]))
-        whole = ctypes.string_at(buffer.at, buffer.len) if buffer.is_out else b''
+            self.library.write(buffer.at, self.message()[:size])
+        whole = self.library.read(buffer.at, buffer.len) if buffer.is_out else b''
         written, before = whole[:size] if owner == app else b'', fields(buffer)
         if self.draw.random() < 0.8:
             counts, sent = self.draw.random() < 0.7, Sent(77, 77)
@@ -324,7 +377,7 @@ class Run:
             self.buffers = [each for each in self.buffers if each[2] is not buffer]
         else:
             same('a buffer that stays', fields(buffer), before)
-            same('its bytes', ctypes.string_at(buffer.at, buffer.len) if buffer.is_out else b'', whole)
+            same('its bytes', self.library.read(buffer.at, buffer.len) if buffer.is_out else b'', whole)
 
     # --- pools, events, counters
 
@@ -432,7 +485,7 @@ class Run:
             same('figures of a table', told, answer[1])
         status = self.ask('table_staged', app, handle, ctypes.byref(found))
         if status == 0:
-            same('a staged value', ctypes.string_at(found.at, found.len), self.tables.handles[handle].table.staged[0])
+            same('a staged value', self.library.read(found.at, found.len), self.tables.handles[handle].table.staged[0])
         kind, name = self.draw.choice((('tval', 'table_validate'), ('tupd', 'table_update'), ('tabort', 'table_abort')))
         self.step(self.tables, app, (kind, handle), self.ask(name, app, handle))
 
@@ -488,7 +541,7 @@ class Run:
         same('tables', fields(tables), {'tables': use['count'], 'handles': use['handles'], 'bytes': use['bytes']})
         for place, (app, number, kind, text) in enumerate(desk.log):
             self.ask('log_line', place, ctypes.byref(line))
-            told = ctypes.string_at(line.text, line.text_len) if line.text_len else b''
+            told = self.library.read(line.text, line.text_len) if line.text_len else b''
             same('a line of the log', (line.app, line.id, line.kind, told),
                  (app, number, kind, text.encode() if isinstance(text, str) else bytes(text)))
 
@@ -517,7 +570,7 @@ def main():
     spec = importlib.util.spec_from_file_location('model', sys.argv[1])
     model = importlib.util.module_from_spec(spec)
     spec.loader.exec_module(model)
-    library = ctypes.CDLL(sys.argv[2])
+    library = (Here if sys.argv[2].endswith('.so') else Served)(sys.argv[2])
     lists, calls, first = (int(word) for word in (sys.argv[3:] + ['300', '1'][len(sys.argv) - 4:])[:3])
     for number in range(first, first + lists):
         try:

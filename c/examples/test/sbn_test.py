@@ -1,6 +1,8 @@
 """Joins processes by sbn_zmq, first two, then three, takes one away and has it come back; then lets in a stranger.
 
-    sbn_test.py [--two] PROGRAM ..      the command that runs sbn_node
+    sbn_test.py [--two] [--beside OTHER] PROGRAM ..
+
+PROGRAM .. is the command that runs sbn_node; OTHER is a sbn_node of another processor, which is the second process.
 """
 import ctypes
 import ctypes.util
@@ -147,6 +149,8 @@ def main():
     words = sys.argv[1:]
     names = NAMES[:2] if '--two' in words else NAMES
     command = [word for word in words if word != '--two']
+    beside = [command.pop(0) for _ in range(2)][1:] if '--beside' in words else command
+    commands = dict(zip(NAMES, (command, beside, command)))
     with tempfile.TemporaryDirectory() as folder:
         config = Path(folder) / 'sbn.conf'
         # Each publishes the others' ids too: what is forwarded back or twice would show.
@@ -155,9 +159,9 @@ def main():
         nodes = []
         try:
             for name in names:
-                nodes.append(Node(command, config, name))
+                nodes.append(Node(commands[name], config, name))
                 hear_each_other(nodes, 20)
-            lose_and_find(nodes, lambda name: Node(command, config, name))
+            lose_and_find(nodes, lambda name: Node(commands[name], config, name))
         finally:
             for node in nodes:
                 node.stop()
