@@ -10,8 +10,8 @@ HEADERS += $(CFE_HEADERS) $(wildcard cfe/test/*.h)
 LIBRARIES += $(BUILD)/libfsw_cfe.a
 INSTALLED_HEADERS += $(filter-out cfe/layer.h cfe/layer_tbl.h,$(CFE_HEADERS))
 PACKAGES += cfe/fsw_cfe.pc.in
-ANALYZED += $(CFE_SOURCES) bench/layer_cost.c
-BENCHES += $(BUILD)/layer_cost
+ANALYZED += $(CFE_SOURCES) bench/layer_cost.c bench/layer_held.c
+BENCHES += $(addprefix $(BUILD)/,layer_cost layer_held)
 TESTS += $(addprefix $(BUILD)/,layer_test services_test services_test.address layer_test.address layer_test.thread pools_test pools_test.address pools_test.thread tables_test tables_test.address tables_test.thread priority_test faults_test faults_test.address faults_test.thread threads_test threads_test.thread soak_test)
 
 # C++ is tried where it is installed.
@@ -35,6 +35,11 @@ $(BUILD)/cpp_test: cfe/test/cpp_test.cpp $(CFE) $(HEADERS)
 
 $(BUILD)/layer_cost: bench/layer_cost.c $(CFE) $(HEADERS)
 	$(COMPILE) -pthread -o $@ $< $(CFE)
+
+WATCHED = $(addprefix -Wl$(comma)--wrap=pthread_mutex_,lock unlock)
+
+$(BUILD)/layer_held: bench/layer_held.c $(CFE) $(HEADERS)
+	$(COMPILE) -pthread -o $@ $< $(CFE) $(WATCHED)
 
 # ---- With a sanitizer: X.address, X.thread ----
 

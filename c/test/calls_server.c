@@ -2,12 +2,11 @@
  * calls_server.c: makes the calls that come on standard input, for random_calls.py on another
  * processor. All numbers are of this processor's order, which is the lowest byte first.
  *
- *     C NAME WORDS WORD..   fsw_raw_NAME on the server's core: 24 bytes of the name, one of how many
- *                           words follow, each N and a number of 64 bits, or B, a length of 64 bits,
- *                           and the bytes that the call's pointer shall point to. Answered by the
- *                           status, 32 bits, and by the bytes of each B as the call left them.
- *     R ADDRESS LENGTH      answered by these bytes of the server's memory
- *     W ADDRESS LENGTH ..   writes these bytes there
+ *     C NAME WORDS WORD..   fsw_raw_NAME on the server's core: 24 bytes of the name, one of how
+ * many words follow, each N and a number of 64 bits, or B, a length of 64 bits, and the bytes that
+ * the call's pointer shall point to. Answered by the status, 32 bits, and by the bytes of each B as
+ * the call left them. R ADDRESS LENGTH      answered by these bytes of the server's memory W
+ * ADDRESS LENGTH ..   writes these bytes there
  */
 #include "fsw.h"
 
@@ -34,59 +33,59 @@ static _Alignas(ALIGN) uint8_t area[AREA_BYTES];
 #define U64(place)  (words[place].number)
 
 /* Each call with its words. */
-#define CALLS(CALL)                                                            \
-    CALL(open, AT(0))                                                          \
-    CALL(end, U32(0))                                                          \
-    CALL(create_pipe, U32(0), U32(1), AT(2), U64(3), AT(4))                    \
-    CALL(delete_pipe, U32(0), U32(1))                                          \
-    CALL(set_options, U32(0), U32(1), U8(2))                                   \
-    CALL(get_options, U32(0), AT(1))                                           \
-    CALL(find_pipe, AT(0), U64(1), AT(2))                                      \
-    CALL(pipe_name, U32(0), AT(1), U64(2), AT(3))                              \
-    CALL(waiting, U32(0), AT(1))                                               \
-    CALL(subscribe, U32(0), U16(1), U32(2), U32(3), U32(4))                    \
-    CALL(unsubscribe, U32(0), U16(1), U32(2))                                  \
-    CALL(transmit, U32(0), AT(1), U64(2), FLAG(3), AT(4))                      \
-    CALL(receive, U32(0), U32(1), AT(2))                                       \
-    CALL(pend, U32(0), U32(1), AT(2))                                          \
-    CALL(look, U32(0), AT(1))                                                  \
-    CALL(allocate_buffer, U32(0), U32(1), AT(2))                               \
-    CALL(transmit_buffer, U32(0), AT(1), FLAG(2), AT(3))                       \
-    CALL(release_buffer, U32(0), AT(1))                                        \
-    CALL(pool_create, U32(0), U32(1), AT(2))                                   \
-    CALL(pool_get, U32(0), U32(1), U32(2), AT(3))                              \
-    CALL(pool_put, U32(0), U32(1), U64(2))                                     \
-    CALL(pool_stats, U32(0), AT(1))                                            \
-    CALL(pool_class, U32(0), U32(1), AT(2))                                    \
-    CALL(pool_block, U32(0), U64(1), AT(2))                                    \
-    CALL(register, U32(0), AT(1), U64(2))                                      \
-    CALL(send_event, U32(0), U16(1), U32(2), AT(3), U64(4), AT(5))             \
-    CALL(reset_filter, U32(0), U16(1))                                         \
-    CALL(set_log_mode, U32(0), U8(1))                                          \
-    CALL(clear_log, U32(0))                                                    \
-    CALL(log_line, U32(0), AT(1))                                              \
-    CALL(event_counts, AT(0))                                                  \
-    CALL(send_housekeeping, U32(0), AT(1))                                     \
-    CALL(counters, AT(0))                                                      \
-    CALL(use, AT(0), AT(1))                                                    \
+#define CALLS(CALL)                                                                   \
+    CALL(open, AT(0))                                                                 \
+    CALL(end, U32(0))                                                                 \
+    CALL(create_pipe, U32(0), U32(1), AT(2), U64(3), AT(4))                           \
+    CALL(delete_pipe, U32(0), U32(1))                                                 \
+    CALL(set_options, U32(0), U32(1), U8(2))                                          \
+    CALL(get_options, U32(0), AT(1))                                                  \
+    CALL(find_pipe, AT(0), U64(1), AT(2))                                             \
+    CALL(pipe_name, U32(0), AT(1), U64(2), AT(3))                                     \
+    CALL(waiting, U32(0), AT(1))                                                      \
+    CALL(subscribe, U32(0), U16(1), U32(2), U32(3), U32(4))                           \
+    CALL(unsubscribe, U32(0), U16(1), U32(2))                                         \
+    CALL(transmit, U32(0), AT(1), U64(2), FLAG(3), AT(4))                             \
+    CALL(receive, U32(0), U32(1), AT(2))                                              \
+    CALL(pend, U32(0), U32(1), AT(2))                                                 \
+    CALL(look, U32(0), AT(1))                                                         \
+    CALL(allocate_buffer, U32(0), U32(1), AT(2))                                      \
+    CALL(transmit_buffer, U32(0), AT(1), FLAG(2), AT(3))                              \
+    CALL(release_buffer, U32(0), AT(1))                                               \
+    CALL(pool_create, U32(0), U32(1), AT(2))                                          \
+    CALL(pool_get, U32(0), U32(1), U32(2), AT(3))                                     \
+    CALL(pool_put, U32(0), U32(1), U64(2))                                            \
+    CALL(pool_stats, U32(0), AT(1))                                                   \
+    CALL(pool_class, U32(0), U32(1), AT(2))                                           \
+    CALL(pool_block, U32(0), U64(1), AT(2))                                           \
+    CALL(register, U32(0), AT(1), U64(2))                                             \
+    CALL(send_event, U32(0), U16(1), U32(2), AT(3), U64(4), AT(5))                    \
+    CALL(reset_filter, U32(0), U16(1))                                                \
+    CALL(set_log_mode, U32(0), U8(1))                                                 \
+    CALL(clear_log, U32(0))                                                           \
+    CALL(log_line, U32(0), AT(1))                                                     \
+    CALL(event_counts, AT(0))                                                         \
+    CALL(send_housekeeping, U32(0), AT(1))                                            \
+    CALL(counters, AT(0))                                                             \
+    CALL(use, AT(0), AT(1))                                                           \
     CALL(table_register, U32(0), AT(1), U64(2), U32(3), U32(4), AT(5), U64(6), AT(7)) \
-    CALL(table_share, U32(0), AT(1), U64(2), AT(3))                            \
-    CALL(table_unregister, U32(0), U32(1))                                     \
-    CALL(table_stage, U32(0), U32(1), U32(2), AT(3), U64(4))                   \
-    CALL(table_staged, U32(0), U32(1), AT(2))                                  \
-    CALL(table_validate, U32(0), U32(1))                                       \
-    CALL(table_update, U32(0), U32(1))                                         \
-    CALL(table_abort, U32(0), U32(1))                                          \
-    CALL(table_load, U32(0), U32(1), U32(2), AT(3), U64(4))                    \
-    CALL(table_get_address, U32(0), U32(1), AT(2))                             \
-    CALL(table_release_address, U32(0), U32(1))                                \
-    CALL(table_status, U32(0), U32(1), AT(2))                                  \
+    CALL(table_share, U32(0), AT(1), U64(2), AT(3))                                   \
+    CALL(table_unregister, U32(0), U32(1))                                            \
+    CALL(table_stage, U32(0), U32(1), U32(2), AT(3), U64(4))                          \
+    CALL(table_staged, U32(0), U32(1), AT(2))                                         \
+    CALL(table_validate, U32(0), U32(1))                                              \
+    CALL(table_update, U32(0), U32(1))                                                \
+    CALL(table_abort, U32(0), U32(1))                                                 \
+    CALL(table_load, U32(0), U32(1), U32(2), AT(3), U64(4))                           \
+    CALL(table_get_address, U32(0), U32(1), AT(2))                                    \
+    CALL(table_release_address, U32(0), U32(1))                                       \
+    CALL(table_status, U32(0), U32(1), AT(2))                                         \
     CALL(table_use, AT(0))
 
-#define DEFINED(name, ...)                               \
+#define DEFINED(name, ...)                                \
     static uint32_t call_##name(const struct word *words) \
-    {                                                    \
-        return fsw_raw_##name(&core, __VA_ARGS__);       \
+    {                                                     \
+        return fsw_raw_##name(&core, __VA_ARGS__);        \
     }
 CALLS(DEFINED)
 
