@@ -24,8 +24,8 @@ PROGRAM_CRATE = "host_run"
 # The modules that the word `lockstep` needs, where they are, and what they use; in the place of the program's memory, what
 # a status has of it.
 ROTATING_CRATE = "host_serve"
-ROTATING = ("fault_line", "reading", "reporting", "status")
-ROTATING_USES = ("app_run", "run_report", "tbl_file")
+ROTATING = ("fault_line", "reading", "status")
+ROTATING_USES = ("app_run", "host_report", "tbl_file")
 MEMORY = """
 /// That memory was refused.
 #[derive(Clone, Copy, Debug, PartialEq, Eq)]

@@ -34,12 +34,13 @@ use Rattle.run_check.specs.declared.judgement.Judgement.TheVariants.{Yes, No}
 use Rattle.host_serve.specs.Checking.{most_checked, illegal_text, legal_text, missing_text}
 use Rattle.host_serve.specs.Images.{most_image, most_table}
 use Rattle.table_images.specs.Images.{image_text, image_fault_text, packed_file}
-use Rattle.host_serve.specs.Serve.{Fed, Made, Runs, Shows, Packs, Judges, EndsChecked, EndsParts, EndsVerdict, CompletesCheck, status_on, EndsNoImage, EndsShown, EndsPacked, CompletesImage, CompletesPack, IsLeftBy, Read, TooLong, SourceFailed, NoRoom, OtherWords, Ends, EndsInput, EndsScript, EndsRun, EndsText, EndsRefused, IsRead, Tells, TellsFront, ReportsRunFront, fault_text, HasCauses, Completes, CompletesUnread, Headline, MakesNothing, Reports, ReportsFront, ReportsRun, Way, Rotating, OnThreads, too_large, figures_after, report_part, part_shown}
-use Rattle.host_serve.specs.Audit.{GuardedAudit}
+use Rattle.host_report.specs.Parts.{part_shown}
+use Rattle.host_serve.specs.Serve.{Fed, Made, Runs, Shows, Packs, Judges, EndsChecked, EndsParts, EndsVerdict, CompletesCheck, status_on, EndsNoImage, EndsShown, EndsPacked, CompletesImage, CompletesPack, IsLeftBy, Read, TooLong, SourceFailed, NoRoom, OtherWords, Ends, EndsInput, EndsScript, EndsRun, EndsText, EndsRefused, IsRead, Tells, TellsFront, ReportsRunFront, fault_text, HasCauses, Completes, CompletesUnread, Headline, MakesNothing, Reports, ReportsFront, ReportsRun, Way, Rotating, OnThreads, too_large, figures_after, report_part}
+use Rattle.host_report.specs.Audit.{GuardedAudit}
 use Rattle.host_serve.specs.Status.{IsNoMemory}
 use Rattle.host_serve.specs.declared.memory.MemoryRefusal.{MemoryRefusal}
-use Rattle.host_serve.specs.declared.reporting.Part.{Part}
-use Rattle.host_serve.specs.declared.reporting.Part.TheVariants.{Whole, Ending}
+use Rattle.host_report.specs.declared.reporting.Part.{Part}
+use Rattle.host_report.specs.declared.reporting.Part.TheVariants.{Whole, Ending}
 use Rattle.host_serve.specs.declared.status.HostStatus.{HostStatus}
 use Rattle.host_serve.specs.declared.status.HostStatus.TheVariants.{Done, Usage, Script as Refused, ReadFault, WriteFault, NoMemory, MissingPart, Illegal, Image as NoImage}
 

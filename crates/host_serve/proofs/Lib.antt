@@ -1,9 +1,5 @@
-pub mod CopyLaws
 pub mod Ends
-pub mod Figures
 pub mod Numbers
 pub mod PlanEnds
 pub mod Served
 pub mod Sizes
-pub mod TableCopyLaws
-pub mod TwoTexts

@@ -15,19 +15,20 @@ use Rattle.bridge_runs.specs.Bridged.{IsBridged}
 use Rattle.bridge_runs.specs.Sides.{side_apps}
 use Rattle.sb_bridge.specs.Left.{LeavesSide}
 use Rattle.sb_bridge.specs.Sides.{whole_on}
-use Rattle.host_serve.specs.Audit.{GuardedAudit, IsShown}
+use Rattle.host_report.specs.Audit.{GuardedAudit, IsShown}
 use Rattle.host_serve.specs.Bridging.{AreShown, both_reports, most_plan, side_report}
 use Rattle.host_serve.specs.Checking.{missing_text}
 use Rattle.host_serve.specs.Input.{IsWhole}
-use Rattle.host_serve.specs.Serve.{Bridges, CompletesPlan, CompletesUnread, EndsBoth, EndsNoPlan, EndsPlan, EndsPlanInput, EndsRefused, EndsText, Fed, HasCauses, HeadlineOnBridge, IsPlanRead, Made, MakesNothing, NoRoom, Read, ReportsPair, ReportsPairFront, ReportsPlan, ReportsPlanFront, SourceFailed, Tells, TellsFront, TooLong, both_shown, part_shown, side_shown, too_large}
+use Rattle.host_report.specs.Parts.{both_shown, part_shown, side_shown}
+use Rattle.host_serve.specs.Serve.{Bridges, CompletesPlan, CompletesUnread, EndsBoth, EndsNoPlan, EndsPlan, EndsPlanInput, EndsRefused, EndsText, Fed, HasCauses, HeadlineOnBridge, IsPlanRead, Made, MakesNothing, NoRoom, Read, ReportsPair, ReportsPairFront, ReportsPlan, ReportsPlanFront, SourceFailed, Tells, TellsFront, TooLong, too_large}
 use Rattle.host_serve.specs.Status.{IsNoMemory}
 use Rattle.host_serve.specs.declared.memory.MemoryRefusal.{MemoryRefusal}
-use Rattle.host_serve.specs.declared.reporting.Part.TheVariants.{Whole}
+use Rattle.host_report.specs.declared.reporting.Part.TheVariants.{Whole}
 use Rattle.host_serve.specs.declared.status.HostStatus.{HostStatus}
 use Rattle.host_serve.specs.declared.status.HostStatus.TheVariants.{Done, MissingPart, NoMemory}
 use Rattle.host_serve.proofs.Ends.{causes-ends, causes-none, causes-refused, causes-text, ends-map, large-long, reported-whole, wanted-ends, whole-told}
 use Rattle.host_serve.proofs.Sizes.{length-plan}
-use Rattle.host_serve.proofs.TwoTexts.{both_are, side_is}
+use Rattle.host_report.proofs.TwoTexts.{both_are, side_is}
 
 -- Causes. --
 

@@ -4,7 +4,7 @@ use Rattle.script_text.specs.Generated.{generated}
 use Rattle.script_text.specs.ScriptSpelling.{spelled_script}
 use Rattle.script_runs.specs.Histories.{Histories}
 use Rattle.host_serve.specs.Serve.{Fed, Made, Outside, Served, Serves, Shows, Packs, Judges, OtherWords, Soaks, HasCauses, MakesNothing, OnThreads, Rotating}
-use Rattle.host_serve.specs.declared.reporting.Part.TheVariants.{Ending}
+use Rattle.host_report.specs.declared.reporting.Part.TheVariants.{Ending}
 use Rattle.host_serve.specs.declared.words.Task.{Task}
 use Rattle.host_serve.specs.declared.words.Task.TheVariants as task
 use Rattle.host_serve.specs.declared.status.HostStatus.{HostStatus}

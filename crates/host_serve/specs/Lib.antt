@@ -1,7 +1,5 @@
-pub mod Audit
 pub mod Bridging
 pub mod Checking
-pub mod Copies
 pub mod Images
 pub mod Input
 pub mod Memory

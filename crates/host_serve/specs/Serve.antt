@@ -1,5 +1,5 @@
 -- What the program does: what it reads, what it writes and what it shows an audit, by how it ended.
-use Rattle.std.specs.Prelude.{◌≡◌, ◌⊎◌, ℕ, ◌≤◌, List, [], ◌∷◌, ◌++◌, length, map, codes, decimal, Option, Some, None, Result, Ok, Err}
+use Rattle.std.specs.Prelude.{◌≡◌, ◌⊎◌, ℕ, ◌≤◌, List, [], ◌∷◌, ◌++◌, length, codes, decimal, Option, Some, None, Result, Ok, Err}
 use Rattle.fsw_base.specs.Guards.{GuardedSink, GuardedSource}
 use Rattle.fsw_base.specs.Outside.{Rose}
 use Rattle.fsw_base.specs.ScriptFaults.{fault_name}
@@ -7,13 +7,10 @@ use Rattle.fsw_base.specs.declared.script_faults.FaultKind.TheVariants.{TooLarge
 use Rattle.fsw_base.specs.declared.script_faults.ScriptFault.{ScriptFault}
 use Rattle.bus_words.specs.declared.history.Entry.{Entry}
 use Rattle.bus_words.specs.Machine.{state_after}
-use Rattle.bus_words.specs.ReceiptLists.{Receipts}
 use Rattle.fsw_base.specs.Limits.{Limits}
-use Rattle.sb_calls.specs.Core.{Core, state_of}
-use Rattle.tbl_load.specs.Core.{Core as TableCore, apps_of as table_apps_of}
 use Rattle.text_page.specs.Pieces.{Grew, CutShort}
-use Rattle.run_report.specs.CounterText.{BusFigures, TableFigures}
-use Rattle.run_report.specs.Report.{ending_text, figures_shown, table_figures_shown, report_text}
+use Rattle.run_report.specs.CounterText.{BusFigures}
+use Rattle.run_report.specs.Report.{ending_text, figures_shown, table_figures_shown}
 use Rattle.run_check.specs.Openings.{report}
 use Rattle.app_script.specs.Grammar.{grammar}
 use Rattle.script_runs.specs.Histories.{Histories}
@@ -27,10 +24,8 @@ use Rattle.bridge_plan.specs.declared.fail.PlanFault.TheVariants as no_plan
 use Rattle.bridge_plan.specs.Grammar.{plan_of}
 use Rattle.bridge_plan.specs.Plan.{PlanText}
 use Rattle.bridge_runs.specs.Bridged.{IsBridged}
-use Rattle.host_serve.specs.Audit.{IsShown, GuardedAudit}
+use Rattle.host_report.specs.Audit.{IsShown, GuardedAudit}
 use Rattle.host_serve.specs.Bridging.{AreShown, both_reports, most_plan}
-use Rattle.app_run.specs.declared.rotating.Finished.{Finished}
-use Rattle.app_run.specs.Runners.{histories_of}
 use Rattle.host_serve.specs.Status.{IsNoMemory}
 use Rattle.host_serve.specs.Input.{most_input, IsWhole, IsTooLarge, IsPartRead}
 use Rattle.host_serve.specs.Checking.{most_checked, illegal_text, legal_text, missing_text}
@@ -43,8 +38,8 @@ use Rattle.table_images.specs.Images.{image_text, image_fault_text, packed_file}
 use Rattle.tbl_file.specs.Image.{image_fault, name_in, offset_in, sub_in, table_in}
 use Rattle.tbl_file.specs.declared.image.ImageFault.{ImageFault}
 use Rattle.tbl_file.specs.declared.image.ImageFault.TheVariants as no_image
-use Rattle.host_serve.specs.declared.reporting.Part.{Part}
-use Rattle.host_serve.specs.declared.reporting.Part.TheVariants.{Whole, Ending}
+use Rattle.host_report.specs.declared.reporting.Part.{Part}
+use Rattle.host_report.specs.declared.reporting.Part.TheVariants.{Whole, Ending}
 use Rattle.host_serve.specs.declared.words.Task.{Task}
 use Rattle.host_serve.specs.declared.words.Task.TheVariants as task
 use Rattle.host_serve.specs.declared.status.HostStatus.{HostStatus}
@@ -80,27 +75,6 @@ report_ending script histories =
 abbrev pub report_part : Part → ScriptText → Histories → List ℕ
 report_part Whole script histories = report script histories
 report_part Ending script histories = report_ending script histories
-
--- this much of the report of these histories, of the applications' lists of receipts, and of these
--- figures
-abbrev pub part_of : Part → Histories → List Receipts → BusFigures → TableFigures → List ℕ
-part_of Whole histories lists figures tables =
-    report_text histories.bus histories.tables (map (λ list. list.receipts) lists) figures tables
-part_of Ending histories lists figures tables = ending_text figures tables
-
--- this much of the report of both services as they are, and of the applications' lists of receipts
-abbrev pub part_shown : Part → Core → TableCore → List Receipts → List ℕ
-part_shown part bus tables lists =
-    part_of part (histories_of bus tables) lists (figures_shown bus.limits (state_of bus))
-    (table_figures_shown tables.limits (table_apps_of tables) tables.log.entries)
-
--- a line, and the whole report of what a side of a bridge left
-unfoldable pub side_shown : List ℕ → Finished → List ℕ
-side_shown line side = line ++ part_shown Whole side.bus side.tables side.receipts.items
-
--- that of both sides, each behind a line with its side
-unfoldable pub both_shown : Finished → Finished → List ℕ
-both_shown one two = side_shown (codes "side 1\n") one ++ side_shown (codes "side 2\n") two
 
 -- A source: the input left, if it is told, and the count of its faults.
 pub record Fed : Type 0 where

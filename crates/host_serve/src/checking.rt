@@ -4,7 +4,7 @@ ghost use Rattle.fsw_base.specs.Outside.{Rose};
 ghost use Rattle.app_script.specs.Grammar.{grammar};
 ghost use Rattle.report_check.specs.Parts.{parts_in};
 ghost use Rattle.text_page.specs.Pieces.{Grew, CutShort};
-ghost use Rattle.host_serve.specs.Audit.{GuardedAudit};
+ghost use Rattle.host_report.specs.Audit.{GuardedAudit};
 ghost use Rattle.host_serve.specs.Checking.{illegal_text, legal_text};
 ghost use Rattle.host_serve.specs.Serve.{EndsChecked, EndsParts, EndsText, EndsVerdict, Judges, fed_through, made_through};
 ghost use Rattle.host_serve.specs.Status.{is_read_fault, is_write_fault};

@@ -2,7 +2,7 @@
 ghost use Rattle.std.specs.Prelude.{◌≡◌, ℕ, ◌≤◌, true, false, OnOk, OnErr};
 ghost use Rattle.fsw_base.specs.Outside.{Rose};
 ghost use Rattle.text_page.specs.Pieces.{Grew, CutShort};
-ghost use Rattle.host_serve.specs.Audit.{GuardedAudit};
+ghost use Rattle.host_report.specs.Audit.{GuardedAudit};
 ghost use Rattle.host_serve.specs.Checking.{missing_text};
 ghost use Rattle.host_serve.specs.Serve.{EndsRefused, EndsText, fault_text, made_through};
 ghost use Rattle.host_serve.specs.Status.{is_read_fault, is_write_fault};

@@ -2,7 +2,7 @@
 ghost use Rattle.std.specs.Prelude.{◌≡◌, ◌≤◌, ◌+◌, length, false, IsTrue};
 ghost use Rattle.table_images.specs.Images.{image_text, packed_file};
 ghost use Rattle.tbl_file.specs.Image.{image_fault, is_table_name};
-ghost use Rattle.host_serve.specs.Audit.{GuardedAudit};
+ghost use Rattle.host_report.specs.Audit.{GuardedAudit};
 ghost use Rattle.host_serve.specs.Serve.{Shows, Packs, EndsShown, EndsPacked, EndsNoImage, EndsText, MakesNothing, fed_through, made_through};
 ghost use Rattle.host_serve.specs.Status.{is_read_fault, is_write_fault};
 

@@ -24,29 +24,23 @@
 //!   run of the script may leave (`headline_on_run`, `headline`, `headline_on_bridge`).
 //! - `Words::task` answers what the words ask for (`task_of`), `HostStatus::exit_status` the number
 //!   with which the program ends.
-//! - `MemAudit` keeps a copy of every run that it was shown, or shows none (`with_copy`).
 //!
 //! By reading: all memory is taken by `Memory`, before the first call of an application.
 //!
 //! Tested by `test_run`: sources and sinks that fail at each call in turn, threads at a gate.
 #![tactic(auto)]
 
-mod audit;
 mod bridging;
 mod checking;
 mod fault_line;
 mod images;
-mod mem_audit;
 mod memory;
 mod reading;
-mod reporting;
 mod serving;
 mod status;
-mod table_copies;
 mod words;
 
-pub use audit::{Audit, NoAudit};
-pub use mem_audit::MemAudit;
+pub use host_report::{Audit, MemAudit, NoAudit};
 pub use memory::MemoryRefusal;
 pub use serving::serve;
 pub use status::{HostStatus, NO_MEMORY};

@@ -1,5 +1,6 @@
 use Rattle.app_run.specs.Runners.{histories_of}
-use Rattle.host_serve.specs.Serve.{both_shown, made_through}
+use Rattle.host_report.specs.Parts.{both_shown}
+use Rattle.host_serve.specs.Serve.{made_through}
 use Rattle.host_serve.proofs.PlanEnds.{both-run, ends-plan}
 use Rattle.host_serve.proofs.bridging.serve_in.Goals as goal
 

@@ -1,6 +1,6 @@
 use Rattle.std.proofs.Common.{map, ap, ◌∙◌}
 use Rattle.host_serve.specs.Serve.{OnThreads, made_through}
-use Rattle.host_serve.specs.declared.reporting.Part.TheVariants.{Whole}
+use Rattle.host_report.specs.declared.reporting.Part.TheVariants.{Whole}
 use Rattle.host_serve.proofs.Ends.{ends-run}
 use Rattle.host_serve.proofs.serving.serve_script_on_threads.Goals as goal
 

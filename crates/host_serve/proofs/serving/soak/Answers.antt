@@ -1,6 +1,6 @@
 use Rattle.std.proofs.Common.{subst}
 use Rattle.host_serve.specs.Serve.{EndsScript, Rotating, made_through}
-use Rattle.host_serve.specs.declared.reporting.Part.TheVariants.{Ending}
+use Rattle.host_report.specs.declared.reporting.Part.TheVariants.{Ending}
 use Rattle.host_serve.proofs.serving.soak.Goals as goal
 
 pub returns-clause-end : goal.returns-clause-end

@@ -1,0 +1,4 @@
+pub mod CopyLaws
+pub mod Figures
+pub mod TableCopyLaws
+pub mod TwoTexts
