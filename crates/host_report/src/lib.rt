@@ -1,7 +1,7 @@
 //! What a run that ended shows: its report, for a reader, and its services, for an audit.
 //!
-//! An audit is a caller's own recorder: it is shown the bus and the tables of each run, once, before
-//! the report is written. [`MemAudit`] keeps copies of their journals, [`NoAudit`] nothing.
+//! An audit is a caller's own recorder: it is shown the bus and the tables of each run, once,
+//! before the report is written. [`MemAudit`] keeps copies of their journals, [`NoAudit`] nothing.
 //!
 //! ```text
 //! /// Shows a run that ended to an audit in memory, and writes its report.
