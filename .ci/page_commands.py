@@ -16,14 +16,15 @@ from pathlib import Path
 
 TOP = Path(__file__).resolve().parent.parent
 PAGES = ['README.md', *sorted(f'docs/{path.name}' for path in (TOP / 'docs').glob('*.md')), 'corpus/README.md']
-COMMAND = re.compile(r'(\(?(\./\w|c/build|\.ci/|/usr/bin/|(make|export|gcc|cc|cp|cmake|python3|rt|git|time|valgrind|man|cd|cat|echo) ))')
+COMMAND = re.compile(r'(\(?(\./\w|c/build|\.ci/|/usr/bin/|aarch64=|(aarch64-linux-gnu-gcc|qemu-aarch64|make|export|gcc|cc|cp|cmake|'
+                     r'python3|rt|git|time|valgrind|man|cd|cat|echo|for) ))')
 # What commands need: the program and the library, proved and built.
 BUILT = TOP / 'crates' / 'host_run' / 'out' / 'host_run'
 LIBRARY = TOP / 'crates' / 'fsw_c' / 'out' / 'libfsw_c.a'
+AARCH64 = LIBRARY.parent / 'aarch64' / LIBRARY.name
 # What isn't run here, by a page and the front of the command.
 LEFT = [
     ('', './fsw build', 'it proves for an hour or more: .ci/run makes it'),
-    ('', './fsw test', 'it takes minutes: .ci/run makes it'),
     ('', 'make -C c test', '.ci/c_library makes it'),
     ('', 'make -C c bench', '.ci/c_library makes it, by instructions'),
     ('README.md', 'git grep', 'it has a NAME to fill in: .ci/pages.py looks for each'),
@@ -36,7 +37,7 @@ RESULTS = {'./fsw lockstep < examples/first.fsw': 'examples/first.report'}
 # Another status than 0: what ./fsw check answers of a report that is none of its script.
 STATUSES = {'(cat examples/first.fsw; echo ---; sed s/sum=236/sum=237/ examples/first.report) | ./fsw check': '7'}
 # A line of the output, in the comment behind these.
-PRINTS = re.compile(r'(\./(?!fsw)\w|c/build|make -C my_)')
+PRINTS = re.compile(r'(\./(?!fsw)\w|c/build|qemu-|make -C my_)')
 SECONDS = 900
 
 
@@ -117,6 +118,8 @@ def fault(found, answer):
 def can_run(block):
     """Whether what a block needs is there."""
     texts = [command for command, _, _ in block]
+    if any('aarch64' in text for text in texts):
+        return AARCH64.exists() and bool(shutil.which('aarch64-linux-gnu-gcc') and shutil.which('qemu-aarch64'))
     if any(text.startswith('make -C c install') for text in texts) and not LIBRARY.exists():
         return False
     return BUILT.exists() or not any('./fsw ' in text and not text.startswith('./fsw build') for text in texts)

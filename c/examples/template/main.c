@@ -1,4 +1,4 @@
-/* main.c: HELLO_APP, and a scheduler that wakes it each second, until the program is ended. */
+/* main.c: HELLO_APP, and a scheduler that wakes it each second, until SIGTERM or SIGINT. */
 #include "fsw_run.h"
 #include "hello_app.h"
 
@@ -21,5 +21,7 @@ int main(void)
                                           {.name = "SCH", .entry = SCH_Main}};
     const struct fsw_config config = {.prints_events = true};
     fsw_configure(&config);
+    if (!fsw_stop_at_signals())
+        return 1;
     return fsw_run(NULL, apps, sizeof apps / sizeof apps[0]) == 0 ? 0 : 1;
 }
