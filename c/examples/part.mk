@@ -2,23 +2,24 @@
 
 # What each program is of.
 MISSION = mission ground_link sample_app
-NODE = sbn_node sbn_zmq
+NODE = sbn_node sbn_zmq sbn_frame sbn_config
 SAMPLE = sample_test sample_app
 TEN = $(patsubst examples/ten_apps/%.c,%,$(wildcard examples/ten_apps/*.c))
 objects = $(patsubst %,$(BUILD)/%$(2).o,$($(1)))
 
-# Processes are joined by ZeroMQ, where it is installed; for another processor it is in SYSROOT.
-HAS_ZMQ = $(if $(IS_FOREIGN),$(and $(SYSROOT),$(wildcard $(SYSROOT)/usr/include/zmq.h)),$(wildcard /usr/include/zmq.h))
+# Processes are joined by ZeroMQ, and libconfig reads how, where both are installed; for another processor they are in SYSROOT.
+NODE_HEADERS = $(and $(wildcard $(1)/usr/include/zmq.h),$(wildcard $(1)/usr/include/libconfig.h))
+HAS_ZMQ = $(if $(IS_FOREIGN),$(and $(SYSROOT),$(call NODE_HEADERS,$(SYSROOT))),$(call NODE_HEADERS))
 ZMQ_PLACES = $(addprefix $(SYSROOT),/usr/lib/$(TARGET) /lib/$(TARGET))
-ZMQ = $(if $(IS_FOREIGN),$(addprefix -L,$(ZMQ_PLACES)) $(addprefix -Wl$(comma)-rpath-link$(comma),$(ZMQ_PLACES))) -lzmq
+ZMQ = $(if $(IS_FOREIGN),$(addprefix -L,$(ZMQ_PLACES)) $(addprefix -Wl$(comma)-rpath-link$(comma),$(ZMQ_PLACES))) -lzmq -lconfig
 
 INSTALLED_SHARE += examples/template
 
 INCLUDES += -Iexamples $(if $(IS_FOREIGN),$(addprefix -isystem ,$(SYSROOT:=/usr/include)))
 HEADERS += $(wildcard examples/*.h examples/ten_apps/*.h)
 ANALYZED += $(wildcard examples/template/*.c examples/ten_apps/*.c)
-ANALYZED += $(addprefix examples/,my_app.c two_apps.c sample_app_tbl.c $(addsuffix .c,$(MISSION) $(if $(HAS_ZMQ),$(NODE))))
-PROGRAMS += $(addprefix $(BUILD)/,my_app two_apps mission ten_apps $(if $(HAS_ZMQ),sbn_node))
+ANALYZED += $(addprefix examples/,my_app.c two_apps.c sample_app_tbl.c $(addsuffix .c,$(MISSION) $(if $(HAS_ZMQ),$(NODE) sbn_keys)))
+PROGRAMS += $(addprefix $(BUILD)/,my_app two_apps mission ten_apps $(if $(HAS_ZMQ),sbn_node sbn_keys))
 # The programs under a sanitizer run in the whole test alone.
 SANITIZED_PROGRAMS = mission.address mission.thread ten_apps.address ten_apps.thread $(if $(HAS_ZMQ),sbn_node.address sbn_node.thread)
 TESTS += $(addprefix $(BUILD)/,sample_app_tbl.o sample_test sample_test.address sample_test.thread $(if $(SHORT),,$(SANITIZED_PROGRAMS)))
@@ -61,6 +62,9 @@ $(BUILD)/sample_test.address: $(call objects,SAMPLE,.address) $(ADDRESS_CFE)
 
 $(BUILD)/sample_test.thread: $(call objects,SAMPLE,.thread) $(THREAD_CFE)
 	$(CC) $(THREAD) -pthread -o $@ $^
+
+$(BUILD)/sbn_keys: $(BUILD)/sbn_keys.o
+	$(CC) $(CFLAGS) -o $@ $^ $(ZMQ)
 
 $(BUILD)/sbn_node: $(call objects,NODE) $(CFE)
 	$(CC) $(CFLAGS) -pthread -o $@ $^ $(ZMQ)
