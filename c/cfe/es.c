@@ -6,6 +6,7 @@
 #include <stdarg.h>
 #include <stdio.h>
 #include <string.h>
+#include <unistd.h>
 
 /* The bytes of a line of the system log, with its zero byte. */
 enum { MOST_LINE = 256 };
@@ -72,7 +73,7 @@ CFE_Status_t CFE_ES_GetAppName(char *AppName, CFE_ES_AppId_t AppId, size_t Buffe
 
 CFE_Status_t CFE_ES_WriteToSysLog(const char *SpecStringPtr, ...)
 {
-    char text[MOST_LINE], line[MOST_LINE];
+    char text[MOST_LINE], line[MOST_LINE + 1]; /* and the line's end */
     if (!SpecStringPtr)
         return CFE_ES_BAD_ARGUMENT;
     va_list arguments;
@@ -85,7 +86,7 @@ CFE_Status_t CFE_ES_WriteToSysLog(const char *SpecStringPtr, ...)
     size_t shown = strlen(text);
     if (shown > 0 && text[shown - 1] == '\n')
         text[shown - 1] = '\0';
-    fsw_copy_printable(line, sizeof line, text);
-    fprintf(stderr, "%s\n", line);
+    fsw_copy_printable(line, MOST_LINE, text);
+    fsw_print_line(STDERR_FILENO, strcat(line, "\n"));
     return length < (int)sizeof text ? CFE_SUCCESS : CFE_ES_ERR_SYS_LOG_TRUNCATED;
 }

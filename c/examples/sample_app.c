@@ -211,7 +211,8 @@ void SAMPLE_APP_Main(void)
         CFE_ES_PerfLogEntry(SAMPLE_APP_PERF_ID);
         if (Status == CFE_SUCCESS) {
             SAMPLE_APP_ProcessCommandPacket(SBBufPtr);
-        } else {
+        } else if (CFE_ES_RunLoop(&SAMPLE_APP_Data.RunStatus)) {
+            /* Not at the program's stop, which refuses a receive too. */
             CFE_EVS_SendEvent(SAMPLE_APP_PIPE_ERR_EID, CFE_EVS_EventType_ERROR,
                               "SAMPLE: pipe read error, 0x%08lx", (unsigned long)(uint32)Status);
             SAMPLE_APP_Data.RunStatus = CFE_ES_RunStatus_APP_ERROR;

@@ -2,7 +2,10 @@
 #include "osapi.h"
 #include "fsw_run.h"
 
+#include <poll.h>
 #include <pthread.h>
+#include <stdatomic.h>
+#include <unistd.h>
 
 int32 OS_TaskDelay(uint32 millisecond)
 {
@@ -10,8 +13,18 @@ int32 OS_TaskDelay(uint32 millisecond)
     return OS_SUCCESS;
 }
 
+/* Nothing is printed while the reader is behind, which may be for ever. */
 void OS_printf(const char *string, ...)
 {
+    static atomic_uint unprinted;
+    struct pollfd output = {.fd = STDOUT_FILENO, .events = POLLOUT};
+    if (poll(&output, 1, 0) != 1 || !(output.revents & POLLOUT)) {
+        atomic_fetch_add(&unprinted, 1);
+        return;
+    }
+    unsigned missing = atomic_exchange(&unprinted, 0);
+    if (missing > 0)
+        printf("OS_printf: %u texts weren't printed\n", missing);
     va_list arguments;
     va_start(arguments, string);
     vprintf(string, arguments);

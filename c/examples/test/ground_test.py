@@ -17,6 +17,7 @@ from pathlib import Path
 
 TOP = Path(__file__).resolve().parents[3]
 CMD, SEND_HK, HK, EVENTS = 0x1882, 0x1883, 0x0883, 0x0808
+LINK_SEND_HK, LINK_HK = 0x1885, 0x0885
 SECONDS = 60
 # The table of sample_app's, compiled; it stands beside the program.
 OBJECT = Path(sys.argv[-1]).resolve().parent / 'sample_app_tbl.o'
@@ -85,6 +86,11 @@ class Ground:
         self.command(SEND_HK, 0)
         return struct.unpack('<BBH', self.receive(HK)[:4])
 
+    def link_housekeeping(self):
+        """Commands, no commands, wrong checksums, strangers, those without room, packets down."""
+        self.command(LINK_SEND_HK, 0)
+        return struct.unpack('<6I', self.receive(LINK_HK))
+
 
 def table_file(*words, **more):
     run = subprocess.run([sys.executable, TOP / 'c' / 'table_file.py', *map(str, words)], capture_output=True, check=False, **more)
@@ -137,10 +143,14 @@ def play(ground):
     ground.event('SAMPLE: value 7, text from ground')
     ground.command(CMD, 50)
     ground.event('SAMPLE: invalid command code 50')
-    # No whole command: cut, too long, telemetry, nothing.
-    for data in (packet(CMD, 0, 0)[:7], packet(CMD, 0, 0) + b'x', packet(HK, 0, 0), packet(CMD, 0, 0, bytes(2000)), b''):
+    # No whole command of ground's: cut, too long, telemetry, another id, nothing.
+    for data in (packet(CMD, 0, 0)[:7], packet(CMD, 0, 0) + b'x', packet(HK, 0, 0), packet(CMD, 0, 0, bytes(2000)), packet(0x1884, 0, 0), b''):
         ground.raw(data)
-        ground.event(f'GROUND_LINK: {min(len(data), 1024)} bytes are no command')
+        ground.event(f"GROUND_LINK: {min(len(data), 1024)} bytes are no command of ground's")
+    with socket.socket(socket.AF_INET, socket.SOCK_DGRAM) as stranger:
+        stranger.bind(('127.0.0.2', 0))
+        stranger.sendto(packet(CMD, 0, 0), ('127.0.0.1', ground.port))
+        ground.event('GROUND_LINK: 8 bytes come from another address')
     while select.select([ground.down], [], [], 0.05)[0]:
         ground.seen.append(ground.down.recv(65536))
     expect(ground.housekeeping(), (1, 3, 3))
@@ -150,6 +160,7 @@ def play(ground):
     expect(ground.housekeeping(), (1, 53, 3))
     load_tables(ground)
     expect(ground.housekeeping(), (2, 56, 9))
+    expect(ground.link_housekeeping()[1:5], (6, 0, 1, 0))
     counts = [fields_of(data)['seqnum'] for data in ground.seen if fields_of(data)['apid'] == EVENTS & 0x7FF]
     expect(counts, list(range(counts[0], counts[0] + len(counts))))
 
@@ -178,7 +189,7 @@ def main():
             printed = program.communicate(timeout=SECONDS)[1]
         if program.returncode:
             sys.exit(f'ground_test: status {program.returncode}: {printed}')
-        if 'GROUND_LINK: ' not in printed or ', 5 refused' not in printed:
+        if 'GROUND_LINK: ' not in printed or ', 7 refused' not in printed:
             sys.exit(f'ground_test: {printed}')
     read_by_tshark(ground.sent + ground.seen)
     print('ground_test passed')
