@@ -12,6 +12,7 @@ _fsw() {
         lockstep) ;;
         picture) words='--from --to --script' ;;
         pcap) words='--script' ;;
+        build) words='--library --target x86_64 aarch64' ;;
         *) return ;;
     esac
     if [[ $word == -* ]]; then

@@ -23,11 +23,14 @@ TOOLS = {'x86-64': '', 'AArch64': 'aarch64-linux-gnu-'}
 WHOLE = {'GLIBC_TUNABLES': ':'.join(f'glibc.cpu.x86_rep_{it}_threshold=1000000000' for it in ('movsb', 'stosb'))}
 EMULATORS = {'x86-64': 'qemu-x86_64', 'AArch64': 'qemu-aarch64'}
 GROWTH = 1.05
-CHECKED = ('Code', 'Stack', 'Memory')
 
+# The layer's files, by service.
+SERVICES = {}
+for file in sorted((TOP / 'cfe').glob('*.c')):
+    SERVICES.setdefault(file.stem.partition('_')[0], []).append(f'{file.stem}.o')
 PARTS = [('the library', ['libfsw.a']), ('its memory from malloc', ['heap.o']), ('its memory from one block', ['arena.o']),
-         ('the layer in cFE\'s names', ['libfsw_cfe.a']),
-         *((f'of these `{name}.c`', [f'{name}.o']) for name in ('es', 'evs', 'msg', 'osapi', 'run', 'sb', 'tbl'))]
+         ("the layer in cFE's names", ['libfsw_cfe.a']), ('the OS layer', ['libfsw_osal.a']),
+         *((f'of the layer `{service}`', files) for service, files in SERVICES.items())]
 
 STACKS = [('a call of the library', 'calls_test', ('fsw_raw_',)), ('a call of the layer', 'layer_test', ('CFE_', 'OS_')),
           ('`fsw_run`', 'layer_test', ('fsw_run',))]
