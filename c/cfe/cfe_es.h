@@ -14,11 +14,15 @@ typedef uint32 CFE_ResourceId_t;
 typedef CFE_ResourceId_t CFE_ES_AppId_t;
 typedef CFE_ResourceId_t CFE_ES_TaskId_t;
 typedef CFE_ResourceId_t CFE_ES_MemHandle_t;
+typedef CFE_ResourceId_t CFE_ES_CounterId_t;
+typedef CFE_ResourceId_t CFE_ES_CDSHandle_t;
 
 #define CFE_RESOURCEID_UNDEFINED        ((CFE_ResourceId_t)0)
 #define CFE_ES_APPID_UNDEFINED          ((CFE_ES_AppId_t)0)
 #define CFE_ES_TASKID_UNDEFINED         ((CFE_ES_TaskId_t)0)
 #define CFE_ES_MEMHANDLE_UNDEFINED      ((CFE_ES_MemHandle_t)0)
+#define CFE_ES_COUNTERID_UNDEFINED      ((CFE_ES_CounterId_t)0)
+#define CFE_ES_CDS_BAD_HANDLE           ((CFE_ES_CDSHandle_t)0)
 #define CFE_RESOURCEID_TEST_DEFINED(id) ((id) != 0)
 #define CFE_RESOURCEID_TEST_EQUAL(a, b) ((a) == (b))
 #define CFE_RESOURCEID_TO_ULONG(id)     ((unsigned long)(id))
@@ -45,11 +49,72 @@ void CFE_ES_ExitApp(uint32 ExitStatus);
  * ended. */
 void CFE_ES_WaitForStartupSync(uint32 TimeOutMilliseconds);
 
+enum CFE_ES_SystemState {
+    CFE_ES_SystemState_UNDEFINED = 0,
+    CFE_ES_SystemState_EARLY_INIT = 1,
+    CFE_ES_SystemState_CORE_STARTUP = 2,
+    CFE_ES_SystemState_CORE_READY = 3,
+    CFE_ES_SystemState_APPS_INIT = 4,
+    CFE_ES_SystemState_OPERATIONAL = 5,
+    CFE_ES_SystemState_SHUTDOWN = 6
+};
+
+/* So too. The core is ready at once; the next two states are the one that StartupSync waits for. */
+CFE_Status_t CFE_ES_WaitForSystemState(uint32 MinSystemState, uint32 TimeOutMilliseconds);
+
 CFE_Status_t CFE_ES_GetAppID(CFE_ES_AppId_t *AppIdPtr);
 CFE_Status_t CFE_ES_GetAppIDByName(CFE_ES_AppId_t *AppIdPtr, const char *AppName);
 CFE_Status_t CFE_ES_GetAppName(char *AppName, CFE_ES_AppId_t AppId, size_t BufferLength);
 
-/* Writes a line to the standard error output; its end is added if it has none. */
+/* The priority is as struct fsw_app's. What a program of one file hasn't is 0. */
+typedef uint8 CFE_ES_TaskPriority_Atom_t;
+
+enum CFE_ES_AppType {
+    CFE_ES_AppType_CORE = 1,
+    CFE_ES_AppType_EXTERNAL = 2,
+    CFE_ES_AppType_LIBRARY = 3
+};
+
+typedef struct CFE_ES_AppInfo {
+    CFE_ResourceId_t ResourceId;
+    uint32 Type; /* CFE_ES_AppType_EXTERNAL */
+    char Name[CFE_MISSION_MAX_API_LEN];
+    char EntryPoint[CFE_MISSION_MAX_API_LEN];
+    char FileName[CFE_MISSION_MAX_PATH_LEN];
+    size_t StackSize;
+    uint32 AddressesAreValid;
+    uint32 CodeAddress;
+    uint32 CodeSize;
+    uint32 DataAddress;
+    uint32 DataSize;
+    uint32 BSSAddress;
+    uint32 BSSSize;
+    uint32 StartAddress;
+    uint16 ExceptionAction;
+    CFE_ES_TaskPriority_Atom_t Priority;
+    CFE_ES_TaskId_t MainTaskId;
+    uint32 ExecutionCounter; /* calls of CFE_ES_RunLoop and of CFE_ES_IncrementTaskCounter */
+    char MainTaskName[CFE_MISSION_MAX_API_LEN];
+    uint32 NumOfChildTasks;
+} CFE_ES_AppInfo_t;
+
+CFE_Status_t CFE_ES_GetAppInfo(CFE_ES_AppInfo_t *AppInfo, CFE_ES_AppId_t AppId);
+
+/* A place for a table by applications, below CFE_PLATFORM_ES_MAX_APPLICATIONS. */
+CFE_Status_t CFE_ES_AppID_ToIndex(CFE_ES_AppId_t AppID, uint32 *Idx);
+
+/* Answers CFE_PSP_RST_TYPE_POWERON. */
+#ifndef CFE_PSP_RST_TYPE_POWERON
+#define CFE_PSP_RST_TYPE_PROCESSOR      1
+#define CFE_PSP_RST_TYPE_POWERON        2
+#define CFE_PSP_RST_SUBTYPE_POWER_CYCLE 1
+#endif
+int32 CFE_ES_GetResetType(uint32 *ResetSubtypePtr);
+
+/*
+ * Writes a line to the standard error output: the time, the application's name and the text, whose
+ * end is added if it has none.
+ */
 CFE_Status_t CFE_ES_WriteToSysLog(const char *SpecStringPtr, ...) OS_PRINTF(1, 2);
 
 /* Nothing is kept of performance. */
@@ -68,7 +133,6 @@ static inline void CFE_ES_PerfLogAdd(uint32 Marker, uint32 EntryExit)
 typedef void (*CFE_ES_TaskEntryFuncPtr_t)(void);
 typedef CFE_ES_TaskEntryFuncPtr_t CFE_ES_ChildTaskMainFuncPtr_t;
 typedef void *CFE_ES_StackPointer_t;
-typedef uint8 CFE_ES_TaskPriority_Atom_t;
 #define CFE_ES_TASK_STACK_ALLOCATE ((CFE_ES_StackPointer_t)0)
 
 CFE_Status_t CFE_ES_CreateChildTask(CFE_ES_TaskId_t *TaskIdPtr, const char *TaskName,
@@ -76,6 +140,46 @@ CFE_Status_t CFE_ES_CreateChildTask(CFE_ES_TaskId_t *TaskIdPtr, const char *Task
                                     CFE_ES_StackPointer_t StackPtr, size_t StackSize,
                                     CFE_ES_TaskPriority_Atom_t Priority, uint32 Flags);
 CFE_Status_t CFE_ES_GetTaskID(CFE_ES_TaskId_t *TaskIdPtr);
+
+CFE_Status_t CFE_ES_GetTaskIDByName(CFE_ES_TaskId_t *TaskIdPtr, const char *TaskName);
+CFE_Status_t CFE_ES_GetTaskName(char *TaskName, CFE_ES_TaskId_t TaskId, size_t BufferLength);
+CFE_Status_t CFE_ES_TaskID_ToIndex(CFE_ES_TaskId_t TaskID, uint32 *Idx);
+
+typedef struct CFE_ES_TaskInfo {
+    CFE_ES_TaskId_t TaskId;
+    uint32 ExecutionCounter;
+    char TaskName[CFE_MISSION_MAX_API_LEN];
+    CFE_ES_AppId_t AppId;
+    char AppName[CFE_MISSION_MAX_API_LEN];
+    size_t StackSize;
+    CFE_ES_TaskPriority_Atom_t Priority;
+    uint8 Spare[2];
+} CFE_ES_TaskInfo_t;
+
+CFE_Status_t CFE_ES_GetTaskInfo(CFE_ES_TaskInfo_t *TaskInfo, CFE_ES_TaskId_t TaskId);
+void CFE_ES_IncrementTaskCounter(void);
+
+/* Counters by name, at most CFE_PLATFORM_ES_MAX_GEN_COUNTERS; each is everybody's. */
+CFE_Status_t CFE_ES_RegisterGenCounter(CFE_ES_CounterId_t *CounterIdPtr, const char *CounterName);
+CFE_Status_t CFE_ES_DeleteGenCounter(CFE_ES_CounterId_t CounterId);
+CFE_Status_t CFE_ES_IncrementGenCounter(CFE_ES_CounterId_t CounterId);
+CFE_Status_t CFE_ES_SetGenCount(CFE_ES_CounterId_t CounterId, uint32 Count);
+CFE_Status_t CFE_ES_GetGenCount(CFE_ES_CounterId_t CounterId, uint32 *Count);
+CFE_Status_t CFE_ES_GetGenCounterIDByName(CFE_ES_CounterId_t *CounterIdPtr,
+                                          const char *CounterName);
+CFE_Status_t CFE_ES_GetGenCounterName(char *CounterName, CFE_ES_CounterId_t CounterId,
+                                      size_t BufferLength);
+CFE_Status_t CFE_ES_CounterID_ToIndex(CFE_ES_CounterId_t CounterId, uint32 *Idx);
+
+/* These answer CFE_STATUS_NOT_IMPLEMENTED: there is no critical data, and no restart. */
+CFE_Status_t CFE_ES_RegisterCDS(CFE_ES_CDSHandle_t *CDSHandlePtr, size_t BlockSize,
+                                const char *Name);
+CFE_Status_t CFE_ES_CopyToCDS(CFE_ES_CDSHandle_t Handle, const void *DataToCopy);
+CFE_Status_t CFE_ES_RestoreFromCDS(void *RestoreToMemory, CFE_ES_CDSHandle_t Handle);
+CFE_Status_t CFE_ES_RestartApp(CFE_ES_AppId_t AppID);
+CFE_Status_t CFE_ES_ReloadApp(CFE_ES_AppId_t AppID, const char *AppFileName);
+CFE_Status_t CFE_ES_DeleteApp(CFE_ES_AppId_t AppID);
+CFE_Status_t CFE_ES_ResetCFE(uint32 ResetType);
 
 /* The task ends at its next call. */
 CFE_Status_t CFE_ES_DeleteChildTask(CFE_ES_TaskId_t TaskId);

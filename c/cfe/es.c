@@ -71,9 +71,20 @@ CFE_Status_t CFE_ES_GetAppName(char *AppName, CFE_ES_AppId_t AppId, size_t Buffe
     return status;
 }
 
+/* Adds the time and the caller's name. */
+static void write_log_line(const char *text)
+{
+    char line[2 * MOST_LINE];
+    CFE_TIME_SysTime_t now = CFE_TIME_GetTime();
+    snprintf(line, sizeof line, "%u.%03u %s: %s\n", (unsigned)now.Seconds,
+             (unsigned)((uint64_t)now.Subseconds * 1000 >> 32),
+             fsw_self ? fsw_self->app->name : "fsw_run", text);
+    fsw_print_line(STDERR_FILENO, line);
+}
+
 CFE_Status_t CFE_ES_WriteToSysLog(const char *SpecStringPtr, ...)
 {
-    char text[MOST_LINE], line[MOST_LINE + 1]; /* and the line's end */
+    char text[MOST_LINE], shown[MOST_LINE];
     if (!SpecStringPtr)
         return CFE_ES_BAD_ARGUMENT;
     va_list arguments;
@@ -83,10 +94,10 @@ CFE_Status_t CFE_ES_WriteToSysLog(const char *SpecStringPtr, ...)
     if (length < 0)
         return CFE_ES_BAD_ARGUMENT;
     /* Applications leave the line's end to cFE, or write it. */
-    size_t shown = strlen(text);
-    if (shown > 0 && text[shown - 1] == '\n')
-        text[shown - 1] = '\0';
-    fsw_copy_printable(line, MOST_LINE, text);
-    fsw_print_line(STDERR_FILENO, strcat(line, "\n"));
+    size_t last = strlen(text);
+    if (last > 0 && text[last - 1] == '\n')
+        text[last - 1] = '\0';
+    fsw_copy_printable(shown, sizeof shown, text);
+    write_log_line(shown);
     return length < (int)sizeof text ? CFE_SUCCESS : CFE_ES_ERR_SYS_LOG_TRUNCATED;
 }

@@ -21,6 +21,12 @@ struct fsw_app {
     uint32_t stack_size; /* bytes of stack for its own frames; 0: the system's usual stack */
 };
 
+/* A library in the shape of cFE's: its name, and what starts it, as LIB_Init. */
+struct fsw_library {
+    const char *name;
+    int32_t (*init)(void);
+};
+
 /*
  * What becomes of events beside the log, and the numbers that they carry. All zero at first. Events
  * are the applications' and the bus's own (cfe_sb_events.h); of the latter only the first four of a
@@ -42,6 +48,10 @@ struct fsw_config {
      * Null: CFE_TBL_Register takes what it needs from malloc. */
     void *table_memory;
     size_t table_memory_size;
+    /* Called in order before the applications start, on the thread of fsw_run. If one doesn't
+     * answer CFE_SUCCESS, nothing is started. */
+    const struct fsw_library *libraries;
+    size_t library_count;
     /*
      * Starts a thread that calls `entry` once; 0 if there will be one. Null: the layer starts its
      * threads itself. With cFE's OS layer it calls OS_TaskCreate. It makes no call of the layer.
@@ -59,8 +69,9 @@ void fsw_configure(const struct fsw_config *config);
  *
  * Answers 0 if nothing went wrong; otherwise how many applications ended by
  * CFE_ES_RunStatus_APP_ERROR and its neighbours, before a fsw_stop; or -1 if nothing was started: a
- * limit is out of its range, there is no memory or no thread, there are 0 or more than limits.apps
- * applications, a name isn't 1 to 19 bytes or is there twice, or the program runs already.
+ * limit is out of its range, there is no memory or no thread, a library didn't start, there are 0
+ * or more than limits.apps applications, a name isn't 1 to 19 bytes or is there twice, or the
+ * program runs already.
  */
 int fsw_run(const struct fsw_limits *limits, const struct fsw_app *apps, size_t count);
 

@@ -24,6 +24,7 @@ enum {
     MOST_TASKS = 64,
     MOST_PIPES = 256,
     PIPE_PLACES = MOST_PIPES + MOST_TASKS, /* a deleted pipe may have sleepers for a moment */
+    MOST_COUNTERS = CFE_PLATFORM_ES_MAX_GEN_COUNTERS,
     MOST_POOLS = 8,
     MOST_TABLES = 256,
     MOST_HANDLES = 1024,
@@ -66,6 +67,9 @@ struct task {
     bool is_main;
     bool is_joined; /* at its end: its thread is the layer's own */
     bool is_ending; /* it ends at its next call: it was asked to, or its application was */
+    uint8_t priority;
+    uint32_t counter;
+    size_t stack_size; /* as it was asked for */
     char name[CFE_MISSION_MAX_API_LEN];
     struct app *app;
     void (*entry)(void);
@@ -144,6 +148,13 @@ struct handle {
     bool has_address;
 };
 
+/* A generic counter of Executive Services. */
+struct counter {
+    bool is_there;
+    uint32_t count;
+    char name[CFE_MISSION_MAX_API_LEN];
+};
+
 struct layer {
     pthread_mutex_t mutex;  /* it inherits priority; fsw_prepare makes it */
     pthread_cond_t changed; /* a task or an application changed its state, or fsw_stop was called */
@@ -179,6 +190,7 @@ struct layer {
     CFE_TBL_HousekeepingTlm_Payload_t table_counts; /* what isn't counted in the tables */
     struct table *first_table; /* whose memory lies first in that which fsw_configure gave */
     struct handle handle[MOST_HANDLES];
+    struct counter counter[MOST_COUNTERS];
 };
 
 extern struct layer fsw_layer;

@@ -12,7 +12,7 @@ INSTALLED_HEADERS += $(filter-out cfe/layer.h cfe/layer_tbl.h,$(CFE_HEADERS))
 PACKAGES += cfe/fsw_cfe.pc.in
 ANALYZED += $(CFE_SOURCES) bench/layer_cost.c bench/layer_held.c
 BENCHES += $(addprefix $(BUILD)/,layer_cost layer_held)
-TESTS += $(addprefix $(BUILD)/,layer_test services_test services_test.address layer_test.address layer_test.thread pools_test pools_test.address pools_test.thread tables_test tables_test.address tables_test.thread priority_test faults_test faults_test.address faults_test.thread threads_test threads_test.thread soak_test)
+TESTS += $(addprefix $(BUILD)/,layer_test services_test services_test.address es_test es_test.address layer_test.address layer_test.thread pools_test pools_test.address pools_test.thread tables_test tables_test.address tables_test.thread priority_test faults_test faults_test.address faults_test.thread threads_test threads_test.thread soak_test)
 
 # C++ is tried where it is installed.
 TESTS += $(if $(shell command -v $(CXX)),$(BUILD)/cpp_test)

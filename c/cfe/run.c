@@ -122,6 +122,7 @@ bool CFE_ES_RunLoop(uint32 *RunStatus)
     if (!app)
         return false;
     be_up(app);
+    fsw_self->counter++;
     bool is_stopping = fsw_layer.is_stopping;
     fsw_leave();
     if (is_stopping && RunStatus)
@@ -137,19 +138,35 @@ static bool are_all_up(void)
     return true;
 }
 
-void CFE_ES_WaitForStartupSync(uint32 TimeOutMilliseconds)
+/* Whether a state has come. Between the core's start and the applications' loops there is none. */
+static bool is_in_state(uint32_t state)
+{
+    if (state <= CFE_ES_SystemState_CORE_READY)
+        return true;
+    return state == CFE_ES_SystemState_SHUTDOWN ? fsw_layer.is_stopping : are_all_up();
+}
+
+CFE_Status_t CFE_ES_WaitForSystemState(uint32 MinSystemState, uint32 TimeOutMilliseconds)
 {
     struct timespec until = fsw_after(TimeOutMilliseconds);
     struct app *app = fsw_enter();
     if (!app)
-        return;
-    be_up(app);
+        return CFE_ES_ERR_RESOURCEID_NOT_VALID;
+    if (MinSystemState > CFE_ES_SystemState_CORE_READY)
+        be_up(app);
     int woken = 0;
-    while (!are_all_up() && !fsw_layer.is_stopping && woken == 0) {
+    while (!is_in_state(MinSystemState) && !fsw_layer.is_stopping && woken == 0) {
         woken = fsw_wait_until(&until);
         fsw_end_if_asked();
     }
+    bool is_there = is_in_state(MinSystemState);
     fsw_leave();
+    return is_there ? CFE_SUCCESS : CFE_ES_OPERATION_TIMED_OUT;
+}
+
+void CFE_ES_WaitForStartupSync(uint32 TimeOutMilliseconds)
+{
+    CFE_ES_WaitForSystemState(CFE_ES_SystemState_OPERATIONAL, TimeOutMilliseconds);
 }
 
 /* ---- The run ---- */
@@ -238,7 +255,9 @@ static bool open_layer(const struct fsw_limits *limits)
     memset(&layer->table_counts, 0, sizeof layer->table_counts);
     memset(layer->bus_events, 0, sizeof layer->bus_events);
     layer->events_seen = 0;
+    memset(layer->counter, 0, sizeof layer->counter);
     layer->requests = 0;
+    layer->apps = 0;
     memset(&layer->bus_counters, 0, sizeof layer->bus_counters);
     layer->bus_commands = layer->bus_command_errors = 0;
     memset(&layer->event_counts, 0, sizeof layer->event_counts);
@@ -272,6 +291,23 @@ static void close_layer(void)
     fsw_must(pthread_cond_destroy(&layer->changed));
     for (size_t i = 0; i < PIPE_PLACES; i++)
         fsw_must(pthread_cond_destroy(&layer->pipe[i].arrived));
+}
+
+/* Each library's start, in order, before any application's. */
+static bool start_libraries(void)
+{
+    const struct fsw_config *config = &fsw_layer.config;
+    for (size_t i = 0; i < config->library_count; i++) {
+        fsw_leave();
+        int32 status = config->libraries[i].init();
+        if (status != CFE_SUCCESS)
+            CFE_ES_WriteToSysLog("library %s: 0x%08lx", config->libraries[i].name,
+                                 (unsigned long)(uint32)status);
+        fsw_resume();
+        if (status != CFE_SUCCESS)
+            return false;
+    }
+    return true;
 }
 
 /* Starts all applications or none: those whose threads are there wait until all are. */
@@ -338,7 +374,7 @@ int fsw_run(const struct fsw_limits *limits, const struct fsw_app *apps, size_t 
     fsw_resume();
     if (!fsw_layer.is_running && are_apps(limits, apps, count) && open_layer(limits)) {
         fsw_layer.is_running = true;
-        bool has_started = start_apps(apps, count);
+        bool has_started = start_libraries() && start_apps(apps, count);
         int errors = wait_for_ends();
         answer = has_started ? errors : -1;
         close_layer();

@@ -200,6 +200,8 @@ static uint32_t start_task(struct wanted wanted)
     *task = (struct task){.state = TASK_RUNS,
                           .is_main = wanted.is_main,
                           .is_joined = is_own,
+                          .priority = wanted.priority,
+                          .stack_size = wanted.stack_size,
                           .app = wanted.app,
                           .entry = wanted.entry};
     snprintf(task->name, sizeof task->name, "%s", wanted.name);

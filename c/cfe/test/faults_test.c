@@ -272,7 +272,7 @@ static void check_printed(void)
     rewind(file);
     CHECK(answer == 0 && fgets(event, sizeof event, file) && fgets(line, sizeof line, file));
     CHECK(strcmp(event, "EVS Port1 0/0/FIRST 1: red .[31m.EVS Port1 . 7\n") == 0);
-    CHECK(strstr(line, "red .[31m.line\n") && fgetc(file) == EOF);
+    CHECK(strstr(line, " FIRST: red .[31m.line\n") && fgetc(file) == EOF);
     CHECK(fclose(file) == 0 && unlink(path) == 0);
 }
 
