@@ -10,7 +10,7 @@
     table_file.py show FILE                 what the headers say
     table_file.py bytes FILE                the table's bytes, to the standard output
 
-The status is 1 where a file is none.
+The status is 1 where a file is none, and one line on the standard error output says why.
 """
 import argparse
 import struct
@@ -20,7 +20,8 @@ from pathlib import Path
 # cFE's file header, the table's header; all numbers have four bytes, the highest first.
 HEADERS = struct.Struct('>4s7I32s3I40s')
 CONTENT, SUBTYPE, HEADER_BYTES = b'cFE1', 8, 64
-MOST_NAME, MOST_TEXT = 39, 31
+MOST_NAME, MOST_TEXT, MOST_TABLE = 39, 31, 65536
+MOST_OBJECT = 16 * 1024 * 1024
 # Of an object file: the kinds of sections that have its symbols, and zeros; a symbol; CFE_TBL_FileDef_t of cfe_tbl_filedef.h.
 SYMBOLS, ZEROS = 2, 8
 SYMBOL = struct.Struct('<IBBHQQ')
@@ -29,15 +30,35 @@ NAMES = ('content', 'subtype', 'length', 'spacecraft', 'processor', 'application
          'reserved', 'offset', 'bytes', 'table')
 
 
+def shown(text):
+    """The text in one line."""
+    return ''.join(letter if letter.isprintable() else '?' for letter in str(text))
+
+
+def refuse(text):
+    sys.exit(shown(f'table_file: {text}'))
+
+
+def content_of(path, most):
+    """The bytes of a regular file, if it has no more than this."""
+    if not Path(path).is_file():
+        refuse(f'{path}: no regular file')
+    with open(path, 'rb') as file:
+        data = file.read(most + 1)
+    if len(data) > most:
+        refuse(f'{path}: over {most} bytes')
+    return data
+
+
 def made(name, table, text='', offset=0, spacecraft=0, processor=0, seconds=0):
     """The file of a table, or a refusal."""
     name, text = name.encode('ascii'), text.encode()
     if not 1 <= len(name) <= MOST_NAME or not all(33 <= byte <= 126 for byte in name):
-        sys.exit(f'table_file: a name has 1 to {MOST_NAME} visible characters')
+        refuse(f'a name has 1 to {MOST_NAME} visible characters')
     if len(text) > MOST_TEXT:
-        sys.exit(f'table_file: a description has at most {MOST_TEXT} bytes')
-    if not table:
-        sys.exit('table_file: there are no bytes')
+        refuse(f'a description has at most {MOST_TEXT} bytes')
+    if not 1 <= len(table) <= MOST_TABLE:
+        refuse(f'a table has 1 to {MOST_TABLE} bytes, not {len(table)}')
     return HEADERS.pack(CONTENT, SUBTYPE, HEADER_BYTES, spacecraft, processor, 0, seconds, 0, text, 0, offset, len(table),
                         name) + table
 
@@ -46,7 +67,7 @@ def packed(form, values):
     """The values, each a number or a text as its letter of the form asks; a byte string takes its text."""
     letters = struct.Struct(form).unpack(bytes(struct.calcsize(form)))
     if len(letters) != len(values):
-        sys.exit(f'table_file: {form} asks for {len(letters)} values, not {len(values)}')
+        refuse(f'{form} asks for {len(letters)} values, not {len(values)}')
     kinds = {bytes: str.encode, float: float, bool: lambda text: text not in ('0', 'false')}
     return struct.pack(form, *(kinds.get(type(kind), lambda text: int(text, 0))(text)
                                for kind, text in zip(letters, values)))
@@ -55,7 +76,7 @@ def packed(form, values):
 def variable(data, name):
     """The bytes of a variable of an object file that isn't linked (ELF of 64 bits, the lowest byte first)."""
     if data[:6] != b'\x7fELF\x02\x01' or data[16:18] != b'\x01\0':
-        sys.exit('table_file: no object file of 64 bits, as `gcc -c` makes it')
+        refuse('no object file of 64 bits, as `gcc -c` makes it')
     first, = struct.unpack_from('<Q', data, 0x28)
     size, count = struct.unpack_from('<HH', data, 0x3A)
     # A section: its name, kind, flags, address, place in the file, bytes, and the section that it refers to.
@@ -66,36 +87,38 @@ def variable(data, name):
             start = sections[names][4] + text
             if data[start:data.index(b'\0', start)] != name or not 0 < home < count:
                 continue
+            if length_of_it > MOST_TABLE:
+                refuse(f'{name.decode()} has over {MOST_TABLE} bytes')
             if sections[home][1] == ZEROS:
                 return bytes(length_of_it)
             return data[sections[home][4] + offset:][:length_of_it]
-    sys.exit(f'table_file: the object has no {name.decode()}')
+    refuse(f'the object has no {name.decode()}')
 
 
 def of_object(path):
     """What a table's source says of it: its name, bytes, description, and the name of its file."""
-    data = Path(path).read_bytes()
+    data = content_of(path, MOST_OBJECT)
     *texts, size = FILE_DEF.unpack(variable(data, b'CFE_TBL_FileDef'))
     variable_name, name, text, file = (it.split(b'\0')[0] for it in texts)
     table = variable(data, variable_name)
     if len(table) != size:
-        sys.exit(f'table_file: {variable_name.decode()} has {len(table)} bytes, not {size}')
+        refuse(f'{variable_name.decode()} has {len(table)} bytes, not {size}')
     return name.decode(), table, text.decode(), file.decode()
 
 
 def parts_of(path):
     """The headers' fields by name, and the table's bytes; the refusals are fsw_read_image's, in its order."""
-    data = Path(path).read_bytes()
+    data = content_of(path, HEADERS.size + MOST_TABLE)
     if len(data) < HEADERS.size:
-        sys.exit(f'table_file: {path}: shorter than its headers')
+        refuse(f'{path}: shorter than its headers')
     fields, table = dict(zip(NAMES, HEADERS.unpack_from(data))), data[HEADERS.size:]
     if fields['content'] != CONTENT:
-        sys.exit(f'table_file: {path}: no file of cFE')
+        refuse(f'{path}: no file of cFE')
     name, _, rest = fields['table'].partition(b'\0')
     if not name or len(name) > MOST_NAME or not all(33 <= byte <= 126 for byte in name):
-        sys.exit(f"table_file: {path}: no table's name")
+        refuse(f"{path}: no table's name")
     if fields['bytes'] != len(table) or not table:
-        sys.exit(f"table_file: {path}: {len(table)} bytes, where the header says {fields['bytes']}")
+        refuse(f"{path}: {len(table)} bytes, where the header says {fields['bytes']}")
     for key in ('content', 'table', 'description'):
         fields[key] = fields[key].split(b'\0')[0].decode('latin-1')
     return fields, table
@@ -121,9 +144,9 @@ def main():
     given = words.parse_args()
     if given.way == 'make':
         if (given.source is None) == (given.values is None):
-            sys.exit('table_file: the bytes come from a file, or from --as')
+            refuse('the bytes come from a file, or from --as')
         table = packed(given.values[0], given.values[1:]) if given.values else (
-            sys.stdin.buffer.read() if given.source == '-' else Path(given.source).read_bytes())
+            sys.stdin.buffer.read(MOST_TABLE + 1) if given.source == '-' else content_of(given.source, MOST_TABLE))
         Path(given.file).write_bytes(made(given.name, table, given.description, given.offset, given.spacecraft, given.processor,
                                           given.seconds))
         return
@@ -136,10 +159,10 @@ def main():
         sys.stdout.buffer.write(table)
     else:
         for key, value in fields.items():
-            print(f'{key:12} {value}')
+            print(f'{key:12} {shown(value)}')
 
 
 try:
     main()
-except (OSError, struct.error, ValueError) as error:
-    sys.exit(f'table_file: {error}')
+except (OSError, struct.error, ValueError, LookupError) as error:
+    refuse(error)
