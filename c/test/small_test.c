@@ -73,6 +73,15 @@ static void tables(void)
     }
 }
 
+/* The arena has no room for the usual bus. */
+static void too_large(void)
+{
+    static struct fsw_core other;
+    const struct fsw_limits usual = FSW_USUAL_LIMITS;
+    CHECK(fsw_bytes_needed(&usual) > FSW_ARENA_BYTES);
+    CHECK_STATUS(fsw_open(&other, &usual), FSW_NO_MEMORY);
+}
+
 int main(void)
 {
     uint64_t needed = fsw_bytes_needed(&limits);
@@ -83,6 +92,7 @@ int main(void)
     CHECK_STATUS(fsw_end(&core, 1), FSW_SUCCESS);
     CHECK_STATUS(fsw_end(&core, 2), FSW_SUCCESS);
     CHECK_STATUS(fsw_close(&core), FSW_SUCCESS);
+    too_large();
     printf("small_test passed: at most %u bytes\n", (unsigned)needed);
     return 0;
 }

@@ -1,10 +1,12 @@
 /*
- * A stand-in for the library: the exports of fsw.h over plain lists, slow and simple. It is a
- * double for the tests of the layer above. Nothing of it is proved, and no program links it. Each
- * message and each version of a table is a block of malloc's own, freed when it is let go, so that
- * valgrind and the sanitizers see a read that comes too late.
+ * A fake of the library: the exports of fsw.h over plain lists, slow and simple, so that programs
+ * and tests link before the library is proved. Nothing of it is proved. Each message and each
+ * version of a table is a block of malloc's own, freed when it is let go, so that valgrind and the
+ * sanitizers see a read that comes too late. If malloc fails, the program ends; but fsw_open
+ * refuses limits that an arena.c linked beside it has no room for, as the library does.
  */
 #include "fsw.h"
+#include "fsw_memory.h"
 
 #include <stdio.h>
 #include <stdlib.h>
@@ -30,6 +32,19 @@ enum {
 
 static const uint32_t SIZES[CLASSES] = {8,   16,   32,   48,   64,   96,    128,   160,  256,
                                         512, 1024, 2048, 4096, 8192, 16384, 32768, 80000};
+
+/* Only a program with arena.c has it: no other object asks for it. */
+#pragma weak rattle_alloc
+#pragma weak rattle_dealloc
+
+/* Memory of zeros. */
+static void *zeros(size_t count, size_t size)
+{
+    void *at = calloc(count, size);
+    if (!at)
+        abort();
+    return at;
+}
 
 /* What a pool gave, by block size. The sizes before the first aren't the pool's. */
 struct account {
@@ -270,15 +285,26 @@ static bool are_limits(const struct fsw_limits *l)
            l->blockmin <= SIZES[CLASSES - 1];
 }
 
+/* Whether an arena has room for what the library takes; without one, malloc has. */
+static bool has_room(const struct fsw_limits *limits)
+{
+    if (!rattle_alloc || !rattle_dealloc)
+        return true;
+    struct rattle_tried all = rattle_alloc(fsw_bytes_needed(limits), 16);
+    if (all.ok)
+        rattle_dealloc(all.at);
+    return all.ok;
+}
+
 uint32_t fsw_raw_open(struct fsw_core *core, const struct fsw_limits *limits)
 {
     if (core->is_open)
         return FSW_ALREADY_OPEN;
     if (!are_limits(limits))
         return FSW_BAD_LIMITS;
-    struct core *c = calloc(1, sizeof *c);
-    if (!c)
+    if (!has_room(limits))
         return FSW_NO_MEMORY;
+    struct core *c = zeros(1, sizeof *c);
     c->limits = *limits;
     c->bus_pool.bytes = c->bus_pool.rest = limits->pool;
     c->table_pool.bytes = c->table_pool.rest = limits->tablepool;
@@ -292,25 +318,27 @@ uint32_t fsw_raw_open(struct fsw_core *core, const struct fsw_limits *limits)
 
 /* ---- Blocks of the bus ---- */
 
+static void raise_peak(uint32_t *peak, uint32_t now)
+{
+    if (now > *peak)
+        *peak = now;
+}
+
 static void see(struct core *c)
 {
-    const uint32_t *now = &c->now.msgids;
-    uint32_t *peak = &c->peak.msgids;
-    for (int i = 0; i < 5; i++)
-        if (now[i] > peak[i])
-            peak[i] = now[i];
+    raise_peak(&c->peak.msgids, c->now.msgids);
+    raise_peak(&c->peak.pipes, c->now.pipes);
+    raise_peak(&c->peak.subs, c->now.subs);
+    raise_peak(&c->peak.buffers, c->now.buffers);
+    raise_peak(&c->peak.bytes, c->now.bytes);
 }
 
 static struct block *new_block(struct core *c, uint32_t size)
 {
-    struct block *block = calloc(1, sizeof *block);
-    if (!block)
-        abort();
+    struct block *block = zeros(1, sizeof *block);
     block->class = class_of(&c->bus_pool, size);
     block->size = size;
-    block->at = calloc(1, SIZES[block->class]);
-    if (!block->at)
-        abort();
+    block->at = zeros(1, SIZES[block->class]);
     draw(&c->bus_pool, block->class);
     c->now.buffers++;
     c->now.bytes += SIZES[block->class];
@@ -377,15 +405,13 @@ uint32_t fsw_raw_create_pipe(struct fsw_core *core, uint32_t app, uint32_t depth
         return counted(&c->counters.create, FSW_SB_MAX_PIPES_MET);
     if (pipe_named(c, name, name_len))
         return counted(&c->counters.create, FSW_SB_PIPE_CR_ERR);
-    struct pipe *made = calloc(1, sizeof *made);
-    if (!made)
-        abort();
+    struct pipe *made = zeros(1, sizeof *made);
     made->number = ++c->pipes_made;
     made->app = app;
     made->depth = depth;
     made->name_len = (uint32_t)name_len;
     memcpy(made->name, name, name_len);
-    made->queue = calloc(depth, sizeof *made->queue);
+    made->queue = zeros(depth, sizeof *made->queue);
     made->next = c->pipe;
     c->pipe = made;
     c->now.pipes++;
@@ -545,9 +571,7 @@ static struct sub *sub_of(const struct core *c, uint16_t id, uint32_t pipe)
 static void add_sub(struct core *c, uint16_t id, uint32_t pipe, uint32_t limit)
 {
     if (!route_of(c, id)) {
-        struct route *route = calloc(1, sizeof *route);
-        if (!route)
-            abort();
+        struct route *route = zeros(1, sizeof *route);
         *route = (struct route){id, 0, c->route};
         c->route = route;
         c->now.msgids++;
@@ -555,9 +579,7 @@ static void add_sub(struct core *c, uint16_t id, uint32_t pipe, uint32_t limit)
     struct sub **at = &c->sub;
     while (*at)
         at = &(*at)->next;
-    *at = calloc(1, sizeof **at);
-    if (!*at)
-        abort();
+    *at = zeros(1, sizeof **at);
     **at = (struct sub){++c->subs_made, pipe, limit, 0, id, NULL};
     c->now.subs++;
     see(c);
@@ -915,7 +937,7 @@ uint32_t fsw_raw_pool_create(struct fsw_core *core, uint32_t app, uint32_t bytes
     struct pool *made = &c->pool[c->pools++];
     made->account.bytes = made->account.rest = bytes;
     made->account.first = c->bus_pool.first;
-    made->cut = calloc(bytes / least, sizeof *made->cut);
+    made->cut = zeros(bytes / least, sizeof *made->cut);
     *pool = c->pools;
     return FSW_SUCCESS;
 }
@@ -929,10 +951,10 @@ static struct cut *draw_cut(struct pool *pool, uint32_t class)
         cut->class = class;
         return cut;
     }
-    struct cut *cut = pool->cut;
-    while (cut->out || cut->class != class)
-        cut++;
-    return cut;
+    for (uint32_t i = 0; i < pool->cuts; i++)
+        if (!pool->cut[i].out && pool->cut[i].class == class)
+            return &pool->cut[i];
+    abort();
 }
 
 uint32_t fsw_raw_pool_get(struct fsw_core *core, uint32_t app, uint32_t pool, uint32_t size,
@@ -1237,12 +1259,8 @@ static struct table *table_named(const struct core *c, const uint8_t *name, size
 
 static struct value *new_value(uint32_t size, uint64_t version, const uint8_t *bytes)
 {
-    struct value *value = calloc(1, sizeof *value);
-    if (!value)
-        abort();
-    value->bytes = calloc(1, size);
-    if (!value->bytes)
-        abort();
+    struct value *value = zeros(1, sizeof *value);
+    value->bytes = zeros(1, size);
     value->version = version;
     if (bytes)
         memcpy(value->bytes, bytes, size);
@@ -1258,9 +1276,7 @@ static void free_value(struct value *value)
 
 static uint32_t add_handle(struct core *c, uint32_t app, struct table *table)
 {
-    struct handle *handle = calloc(1, sizeof *handle);
-    if (!handle)
-        abort();
+    struct handle *handle = zeros(1, sizeof *handle);
     *handle = (struct handle){++c->handles_made, app, table, 0, NULL, c->handle};
     c->handle = handle;
     c->tables.handles++;
@@ -1284,9 +1300,7 @@ static uint32_t blocks_of(uint32_t option)
 static struct table *add_table(struct core *c, uint32_t app, const uint8_t *name, size_t name_len,
                                uint32_t size, uint32_t option)
 {
-    struct table *table = calloc(1, sizeof *table);
-    if (!table)
-        abort();
+    struct table *table = zeros(1, sizeof *table);
     table->app = app;
     table->size = size;
     table->option = option;
@@ -1464,9 +1478,7 @@ static uint32_t loadable(const struct core *c, uint32_t app, uint32_t handle, ui
 
 static void stage(struct table *table, uint32_t offset, const uint8_t *bytes, size_t len)
 {
-    table->staged = malloc(table->size);
-    if (!table->staged)
-        abort();
+    table->staged = zeros(1, table->size);
     memcpy(table->staged, table->present->bytes, table->size);
     memcpy(table->staged + offset, bytes, len);
     table->staged_state = 1;
@@ -1617,11 +1629,11 @@ uint32_t fsw_raw_table_status(struct fsw_core *core, uint32_t app, uint32_t hand
     if (why)
         return why;
     const struct table *table = found->table;
-    *figures = (struct fsw_table_status){
-        .version = table->present->version,
-        .staged = table->staged ? table->staged_state : 0,
-        .holds = table->present->holds + (table->older ? table->older->holds : 0),
-        .loaded = table->present->version > 0};
+    *figures = (struct fsw_table_status){.version = table->present->version,
+                                         .staged = table->staged ? table->staged_state : 0,
+                                         .holds = table->present->holds +
+                                                  (table->older ? table->older->holds : 0),
+                                         .loaded = table->present->version > 0};
     return FSW_SUCCESS;
 }
 
