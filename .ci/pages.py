@@ -1,7 +1,7 @@
 #!/usr/bin/env python3
 """Checks that the pages lead where they say.
 
-- A link in README.md, in docs/ or in corpus/README.md leads to a file and, behind `#`, to a heading of it.
+- A link in README.md, CHANGELOG.md, in docs/ or in corpus/README.md leads to a file and, behind `#`, to a heading of it.
 - README names each crate. A name that it gives of a contract (in backticks, a lower-case one with `_` or one that begins with a
   capital) is a clause, a law, another function, a type, a definition or a field, and found by the searches that README gives.
 - Each file that has a case for most calls of the bus or of the tables, or for a quarter of the script's lines, is named in the
@@ -12,7 +12,7 @@ import sys
 from pathlib import Path
 
 TOP = Path(__file__).resolve().parent.parent
-PAGES = [TOP / 'README.md', *sorted((TOP / 'docs').glob('*.md')), TOP / 'corpus' / 'README.md']
+PAGES = [TOP / 'README.md', TOP / 'CHANGELOG.md', *sorted((TOP / 'docs').glob('*.md')), TOP / 'corpus' / 'README.md']
 # Of each enum: the recipe, where the enum is, how specs name it, how code names it (by itself in its own crate alone), and which
 # part of its variants makes a file one with a case for each.
 ENUMS = [
