@@ -1,11 +1,11 @@
 # Harnesses of faults, built by `make faults`: clang's libFuzzer on what comes from outside, and memory that is refused.
 
 FUZZ = -fsanitize=address,undefined -fno-sanitize-recover=undefined
-FUZZED_CFE = $(patsubst cfe/%.c,$(BUILD)/%.fuzz.o,$(CFE_SOURCES)) $(BUILD)/osapi.fuzz.o $(if $(LIBRARY),$(CORE),$(BUILD)/stand_in.fuzz.o)
+FUZZED_CFE = $(patsubst cfe/%.c,$(BUILD)/%.fuzz.o,$(CFE_SOURCES)) $(BUILD)/osapi.fuzz.o $(if $(LIBRARY),$(CORE),$(BUILD)/stand_in.fuzz.o $(BUILD)/fsw_text.fuzz.o)
 FUZZERS = $(addprefix $(BUILD)/,fuzz_datagram fuzz_frame fuzz_table $(if $(HAS_ZMQ),fuzz_config))
 ANALYZED += $(addprefix test/faults/,fuzz_datagram.c fuzz_frame.c fuzz_table.c refused_test.c $(if $(HAS_ZMQ),fuzz_config.c))
 
-$(foreach folder,cfe osal test examples test/faults,$(eval $(BUILD)/%.fuzz.o: $(folder)/%.c $(HEADERS) test/faults/fuzz.h | $(BUILD) ; clang -O1 -g -std=gnu11 -Wall -Wextra -fsanitize=fuzzer-no-link $(FUZZ) $(INCLUDES) -pthread -c $$< -o $$@))
+$(foreach folder,. cfe osal test examples test/faults,$(eval $(BUILD)/%.fuzz.o: $(folder)/%.c $(HEADERS) test/faults/fuzz.h | $(BUILD) ; clang -O1 -g -std=gnu11 -Wall -Wextra -fsanitize=fuzzer-no-link $(FUZZ) $(INCLUDES) -pthread -c $$< -o $$@))
 
 FUZZER = clang -fsanitize=fuzzer $(FUZZ) -pthread -o $@ $^
 
@@ -22,7 +22,7 @@ $(BUILD)/fuzz_config: $(BUILD)/fuzz_config.fuzz.o $(BUILD)/sbn_config.fuzz.o $(F
 	$(FUZZER) $(NODE_LIBRARIES)
 
 # The double ends the program if it gets no memory, so its own requests are let through.
-UNREFUSED = $(if $(LIBRARY),$(CORE),$(BUILD)/stand_in.unrefused.o)
+UNREFUSED = $(if $(LIBRARY),$(CORE),$(BUILD)/stand_in.unrefused.o $(BUILD)/fsw_text.o)
 $(BUILD)/stand_in.unrefused.o: test/stand_in.c $(HEADERS) | $(BUILD)
 	$(COMPILE) -Dmalloc=__real_malloc -Dcalloc=__real_calloc -c $< -o $@
 
