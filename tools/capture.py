@@ -11,7 +11,7 @@ import sys
 
 sys.dont_write_bytecode = True  # nothing is left beside the sources
 
-from given import report_given, script_calls_given
+from given import report_given, script_given
 from kit import tell
 from packets import told_packets
 from story import SENDS
@@ -55,7 +55,7 @@ def main(words):
     usage.add_argument("--script", metavar="FILE", help="the script that was run: makes the bytes that the report hasn't")
     options = usage.parse_args(words)
     report = report_given()
-    found = script_calls_given(report, options.script) or told_packets(report)
+    found = script_given(report, options.script).packets or told_packets(report)
     packets = [found[call.number] for call in report.bus if call.number in found]
     tell_what_lacks(report, packets)
     sys.stdout.buffer.write(capture_of(packets))

@@ -14,8 +14,10 @@ import re
 import shutil
 import stat
 import subprocess
+import sys
 import tempfile
 import threading
+import time
 from pathlib import Path
 
 from build import crates_in_order
@@ -36,6 +38,10 @@ def form_of(words):
 
 def kept_path(form):
     return os.path.join(FOLDER, form)
+
+
+def took_path(form):
+    return os.path.join(FOLDER, f"{form}.took")
 
 
 def digest_of_sources():
@@ -79,17 +85,43 @@ def alone():
         yield True
 
 
+class Clock:
+    """A line on a terminal that says for how long the program is compiled, and how long it took the last time."""
+
+    def __init__(self, form):
+        self.began, self.shown, self.took = time.monotonic(), "", ""
+        self.is_terminal = sys.stderr.isatty()
+        with contextlib.suppress(OSError):
+            self.took = f"; the last time it took {Path(took_path(form)).read_text().strip()}"
+
+    def time(self):
+        seconds = int(time.monotonic() - self.began)
+        return f"{seconds // 60}:{seconds % 60:02}"
+
+    def show(self):
+        line = f"fsw: {self.time()}, compiling{self.took or '; it takes about a minute on an idle machine'}"
+        if self.is_terminal and line != self.shown:
+            self.shown = line
+            print(f"\r\033[K{line}", end="", file=sys.stderr, flush=True)
+
+    def end(self):
+        if self.shown:
+            print("\r\033[K", end="", file=sys.stderr, flush=True)
+
+
 class Catch(threading.Thread):
     """Takes the program that is linked below a folder, as long as it stands there."""
 
-    def __init__(self, folder, to):
+    def __init__(self, folder, to, clock):
         super().__init__(daemon=True)
-        self.folder, self.to, self.seen, self.is_over = folder, to, None, threading.Event()
+        self.folder, self.to, self.clock, self.seen, self.is_over = folder, to, clock, None, threading.Event()
 
     def run(self):
         while not self.is_over.wait(LOOK_EVERY):
+            self.clock.show()
             with contextlib.suppress(OSError):
                 self.look()
+        self.clock.end()
 
     def look(self):
         for path, _, names in os.walk(self.folder):
@@ -144,8 +176,9 @@ def try_program(crate, words, text, folder=None):
         return Answer(rt.returncode, said, output.read())
 
 
-def keep(form, program, digest, began):
+def keep(form, program, digest, began, took):
     """Puts a program in its place, as old as the compilation's beginning, so that a change meanwhile counts as newer."""
+    Path(took_path(form)).write_text(f"{took}\n")
     if digest == digest_of_sources():
         os.utime(program, (began, began))
         os.replace(program, kept_path(form))
@@ -165,10 +198,11 @@ def compile_and_run(form, words, text):
         with making:
             files, caught = os.path.join(making.name, "rt"), os.path.join(making.name, "program")
             os.mkdir(files)
-            catch = Catch(files, caught)
+            clock = Clock(form)
+            catch = Catch(files, caught, clock)
             catch.start()
             answer = try_program(crate, words, text, files)
             program = catch.end()
             if program:
-                keep(form, program, digest, began)
+                keep(form, program, digest, began, clock.time())
             return answer

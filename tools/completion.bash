@@ -1,6 +1,6 @@
 # Completes the words of ./fsw in bash: source tools/completion.bash
 _fsw() {
-    local words='lockstep run check bridge gen soak image pack picture pcap test build doctor
+    local words='lockstep run check bridge gen soak image pack picture page json pcap test build doctor
         --version --help'
     local word=${COMP_WORDS[COMP_CWORD]}
     COMPREPLY=()
@@ -11,6 +11,7 @@ _fsw() {
     case ${COMP_WORDS[1]} in
         lockstep) ;;
         picture) words='--from --to --script' ;;
+        page) words='--script --other' ;;
         pcap) words='--script' ;;
         build) words='--library --target x86_64 aarch64' ;;
         *) return ;;

@@ -6,8 +6,9 @@ import re
 import sys
 
 from kit import tell
-from packets import OtherScript, sent_packets
+from packets import OtherScript, held_events, names_in, sent_packets
 from report import NoReport, read_report
+from story import Story
 
 FAULTY = 3
 
@@ -28,19 +29,35 @@ def what_it_is(text):
     return ""
 
 
-def report_given():
-    """The report on standard input."""
+def text_given():
+    """What is on standard input, which is to be a report."""
     if sys.stdin.isatty():
         tell("a report is read from standard input, as ./fsw lockstep FILE prints it")
         sys.exit(2)
-    text = sys.stdin.buffer.read()
+    return sys.stdin.buffer.read()
+
+
+def report_in(text, name="standard input"):
+    """The report that these bytes are; ends the run if they are none."""
     try:
         return read_report(text.decode("ascii"))
     except NoReport as error:
-        tell(f"standard input is no report: {what_it_is(text) or error}")
+        tell(f"{name} is no report: {what_it_is(text) or error}")
     except UnicodeDecodeError as error:
-        tell(f"standard input is no report: a byte at {error.start} isn't ASCII")
+        tell(f"{name} is no report: a byte at {error.start} isn't ASCII")
     sys.exit(FAULTY)
+
+
+def report_given():
+    """The report on standard input."""
+    return report_in(text_given())
+
+
+def lines_given():
+    """The lines of the report on standard input."""
+    text = text_given()
+    report_in(text)
+    return text.decode("ascii").split("\n")
 
 
 def bytes_of(path):
@@ -53,12 +70,24 @@ def bytes_of(path):
         sys.exit(2)
 
 
-def script_calls_given(report, path):
-    """The packets that the script of this name sent; none where it isn't named."""
+class Given:
+    """What a script tells of its report: the packets that were sent, the names of applications, and the events that a
+    filter held back; of the last None if no script is given."""
+
+    def __init__(self, packets=None, names=(), held=None):
+        self.packets, self.names, self.held = packets or {}, list(names), held
+
+    def story(self, report):
+        return Story(report, {number: packet.id for number, packet in self.packets.items()}, self.held)
+
+
+def script_given(report, path):
+    """What the script of this name tells; nothing if none is named."""
     if path is None:
-        return {}
+        return Given()
+    text = bytes_of(path)
     try:
-        return sent_packets(report, bytes_of(path))
-    except (OtherScript, ValueError, IndexError) as error:
+        return Given(sent_packets(report, text), names_in(text), held_events(report, text))
+    except (OtherScript, ValueError, IndexError, KeyError) as error:
         tell(f"{path} isn't the script of this report: {error}")
         sys.exit(FAULTY)

@@ -9,6 +9,8 @@ from dataclasses import dataclass
 from story import HOUSEKEEPING, SENDS
 
 HEADER, HOUSEKEEPING_BYTES = 6, 64
+# Up to so many events a filter counts.
+MOST_EVENTS = 65535
 # Lines that are no call of the bus: those that write a buffer, those of the tables, and what an
 # application looks at again.
 WRITES = ("form", "put")
@@ -167,6 +169,44 @@ def compare(report, packets):
             raise OtherScript(f"message {seen.number} was received with other bytes than the script makes")
         if not is_whole and len(packet.bytes) < len(seen.head):
             packet.bytes = seen.head
+
+
+def names_in(text):
+    """The names of a script's applications."""
+    lines = (line.split() for line in text.decode("latin-1").split("\n"))
+    return [words[1] for words in lines if words[:1] == ["app"]]
+
+
+class Filters:
+    """The filters of an application: how each counts the events of its id."""
+
+    def __init__(self):
+        self.filters = {}
+
+    def follow(self, call, words):
+        """Whether a call that was accepted is an event that a filter holds back."""
+        if call.word == "evreg":
+            self.filters = {number_of(it.split(":")[0]): [number_of(it.split(":")[1]), 0] for it in words[1:]}
+        elif call.word == "evreset":
+            self.filters[number_of(words[1])][1] = 0
+        elif call.word == "event":
+            found = self.filters.get(number_of(words[1]), [0, 0])
+            is_held = found[0] & found[1] != 0
+            found[1] = min(found[1] + 1, MOST_EVENTS)
+            return is_held
+        return False
+
+
+def held_events(report, text):
+    """The numbers of the calls of events that a filter held back."""
+    lines, _ = read_script(text)
+    senders, filters, held = [Sender(it) for it in lines], [Filters() for _ in lines], set()
+    for call in report.bus:
+        if call.word not in ("look", "end"):
+            words = senders[call.app - 1].next_call(call)
+            if call.is_done() and filters[call.app - 1].follow(call, words):
+                held.add(call.number)
+    return held
 
 
 def told_packets(report):

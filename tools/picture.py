@@ -1,8 +1,9 @@
 """Draws a report: ./fsw picture [--from N] [--to N] [--script FILE] < report > run.svg
 
 Each application has a lane, from left to right, and the calls stand below each other in the order in
-which the bus took them. An arrow goes from each send to each receipt. A second strip has the calls
-of the tables, whose order against those of the bus no report tells.
+which the bus took them. An arrow goes from each send to each receipt: beside the send to the receiver's
+lane, and down between the lanes, so that it runs behind no box. A second strip has the calls of the
+tables, whose order against those of the bus no report tells.
 """
 import argparse
 import sys
@@ -10,15 +11,18 @@ from html import escape
 
 sys.dont_write_bytecode = True  # nothing is left beside the sources
 
-from given import report_given, script_calls_given
+from given import report_given, script_given
 from kit import tell
 from story import RECEIVES, SENDS, Story
 
-MOST_CALLS = 2000
+# Programs that show pictures take none that is higher.
+MOST_HEIGHT = 32000
 NUMBERS, NOTES, MARGIN = 76, 330, 16
 BOX, LINE, PADDING, GAP = 212, 15, 4, 5
 # How many letters fit into a line of a box.
 ROOM = 33
+# How far from a box the first arrow goes down, and how far from each other they do.
+FIRST_TRACK, TRACK, CORNER = 16, 9, 5
 # The lane's width, by how many lanes there are: the room beside the boxes is for arrows.
 LANES = ((2, 400), (4, 350), (16, 310))
 COLOURS = ("#1f6fb4", "#2c8f46", "#7a4fb0", "#b8680d", "#0d8d8d", "#a8357c", "#5d6d1f", "#4059d0")
@@ -35,6 +39,7 @@ STYLE = """
   .refused { fill: #fbe9e7; stroke: #cf6b5d; }
   .load { fill: #efe7f8; stroke: #9370c4; }
   .ended { fill: #d9dde2; stroke: #9aa3ad; }
+  .held { fill: #fff; stroke: #b5bdc6; stroke-dasharray: 3 3; }
   .lane { stroke: #ccd2d9; stroke-dasharray: 2 3; }
   .waits { stroke: #e8c47a; stroke-width: 5; }
   .message, .version { fill: none; stroke-width: 1.6; }
@@ -107,29 +112,34 @@ class Strip:
         begin, end = self.places[number]
         return (begin + end) / 2
 
+    def track(self, app, side, begin, end):
+        """How far from the middle of a lane, on this side, an arrow goes down that overlaps no other one there."""
+        taken = self.busy.setdefault((app, side), [])
+        at = next(it for it in range(999) if all(at != it or last < begin or first > end for at, first, last in taken))
+        taken.append((at, begin, end))
+        count = max(1, int((self.width - BOX) / 2 - FIRST_TRACK) // TRACK)
+        return self.middle(app) + side * (BOX / 2 + FIRST_TRACK + at % count * TRACK)
+
     def arrow(self, kind, call, other, colour, title, name, start=0):
         """An arrow from the box of a call to that of a later one; from above or to below, where one
         of them isn't drawn; `start` is how far from the middle of its box it begins."""
         y = self.anchor(call.number) + start if call.number in self.places else self.top - 12
         to_y = self.anchor(other.number) if other.number in self.places else self.y + 4
-        if call.app == other.app:
-            return self.loop(kind, call.app, y, to_y, colour, title, name)
-        side = 1 if other.app > call.app else -1
-        x, to_x = self.middle(call.app) + side * BOX / 2, self.middle(other.app) - side * (BOX / 2 + 3)
-        reach = min(60, abs(to_x - x) / 2) * side
-        self.lines.path(kind, f"M{x:.0f} {y:.0f} C{x + reach:.0f} {y:.0f} {to_x - reach:.0f} {to_y:.0f} {to_x:.0f} {to_y:.0f}", colour, title)
-        self.lines.text(to_x - side * 30, to_y - 5, name, "name")
-
-    def loop(self, kind, app, y, to_y, colour, title, name):
-        """An arrow beside a lane, as far out as those that it overlaps leave it."""
-        taken = self.busy.setdefault(app, [])
-        free = (it for it in range(99) if all(at != it or end < y or begin > to_y for at, begin, end in taken))
-        at = next(free)
-        taken.append((at, y, to_y))
-        x = self.middle(app) + BOX / 2
-        out = x + 24 + at % 5 * 13
-        self.lines.path(kind, f"M{x:.0f} {y:.0f} C{out + 8:.0f} {y:.0f} {out + 8:.0f} {to_y:.0f} {x + 3:.0f} {to_y:.0f}", colour, title)
-        self.lines.text(x + 18, to_y - 5, name, "name")
+        # On which side of the receiver's lane it comes.
+        side = -1 if other.app > call.app else 1
+        down = self.track(other.app, side, y, to_y)
+        path = f"M{down:.0f} {y:.0f}"
+        if call.number in self.places:
+            x = self.middle(call.app) + (BOX / 2 if other.app >= call.app else -BOX / 2)
+            turn = CORNER if down < x else -CORNER
+            path = f"M{x:.0f} {y:.0f}H{down + turn:.0f}Q{down:.0f} {y:.0f} {down:.0f} {y + CORNER:.0f}"
+        if other.number in self.places:
+            to_x = self.middle(other.app) + side * (BOX / 2 + 3)
+            path += f"V{to_y - CORNER:.0f}Q{down:.0f} {to_y:.0f} {down - side * CORNER:.0f} {to_y:.0f}H{to_x:.0f}"
+        else:
+            path += f"V{to_y:.0f}"
+        self.lines.path(kind, path, colour, title)
+        self.lines.text(down - side * 2, to_y - 7, name, "name")
 
     def lanes_below(self, heads):
         """The lanes' lines, and what stands above them."""
@@ -173,12 +183,16 @@ def bus_texts(story, call):
         texts = [f"{call.word} p{given}: #{told}"]
         return "take", texts + ([packet_text(source)] if source else [])
     kind = "ended" if call.word == "end" else "box" if call.is_done() else "refused"
+    if call.number in story.held:
+        return "held", [f"event {given}", "held back by a filter"]
     if call.word == "create" and call.is_done():
         return kind, [f"create p{told} {call.given[1]}, depth {call.given[0]}"]
     if call.word == "sub":
         given = f"{call.given[0]} p{call.given[1]}, limit {call.given[2]}"
     text = f"{call.word} {given}".rstrip()
-    return kind, [text, told] if told and len(f"{text}: {told}") > ROOM else [f"{text}: {told}" if told else text]
+    # Names of refusals are in capitals, which are broader.
+    room = ROOM if call.is_done() else ROOM - 5
+    return kind, [text, told] if told and len(f"{text}: {told}") > room else [f"{text}: {told}" if told else text]
 
 
 class Tables:
@@ -279,7 +293,7 @@ def draw_notes(strip, story):
             strip.y += 14
 
 
-def draw_bus(lines, story, calls, lanes, width, top):
+def draw_bus(lines, story, calls, lanes, width, top, heads):
     strip = Strip(lines, calls, lanes, width, top)
     for call in calls:
         kind, texts = bus_texts(story, call)
@@ -292,11 +306,11 @@ def draw_bus(lines, story, calls, lanes, width, top):
     names = {}
     for number, (owner, name, _) in story.names.items():
         names.setdefault(owner, []).append(f"p{number} {name}")
-    strip.lanes_below(lambda app: [f"application {app}", ", ".join(names.get(app, []))])
+    strip.lanes_below(lambda app: [heads[app - 1], ", ".join(names.get(app, []))])
     return strip
 
 
-def draw_tables(lines, tables, calls, lanes, width, top):
+def draw_tables(lines, tables, calls, lanes, width, top, heads):
     strip = Strip(lines, calls, lanes, width, top)
     for call in calls:
         strip.call(call, *tables.texts(call))
@@ -306,7 +320,7 @@ def draw_tables(lines, tables, calls, lanes, width, top):
             made = tables.made.get((name, version))
             if made:
                 strip.arrow("version", made, call, None, f"{name}, version {version}, to handle {call.given[0]}", f"v{version}")
-    strip.lanes_below(lambda app: [f"application {app}"])
+    strip.lanes_below(lambda app: [heads[app - 1]])
     return strip
 
 
@@ -316,20 +330,48 @@ def markers():
     return "<defs>" + "".join(arrow.format(*it) for it in named) + "</defs>"
 
 
-def picture_of(report, story, first, last):
-    """The picture of the calls with these numbers, as a text in SVG."""
+class NoPicture(Exception):
+    """What can't be drawn, and why."""
+
+
+def heads_of(report, names):
+    """What stands above the lanes: the names of the applications, if the script tells them."""
+    return [f"{app} {names[app - 1]}" if app <= len(names) else f"application {app}" for app in range(1, max(report.apps(), 1) + 1)]
+
+
+def calls_between(report, first, last):
+    """The calls of both services with these numbers."""
+    most = max(len(report.bus), len(report.tables))
+    if first > last:
+        raise NoPicture(f"--from {first} is behind --to {last}")
+    if first > most or last < 1:
+        raise NoPicture(f"the calls are numbered from 1 to {most}, and none of them is drawn")
     inside = lambda calls: [it for it in calls if first <= it.number <= last]
-    bus, tables = inside(report.bus), inside(report.tables)
-    if len(bus) + len(tables) > MOST_CALLS:
-        raise ValueError(f"{len(bus) + len(tables)} calls, and a picture has at most {MOST_CALLS}: choose some by --from N --to N")
-    lanes, lines = max(report.apps(), 1), Lines()
+    return inside(report.bus), inside(report.tables)
+
+
+def last_that_fits(strips, last):
+    """The last call of a picture that is low enough, roughly: in both strips so many calls are drawn."""
+    height = sum(strip.y - strip.top for strip in strips)
+    count = max(len(strip.calls) for strip in strips)
+    return max(1, int(count * 0.9 * MOST_HEIGHT / height))
+
+
+def picture_of(report, story, first, last, names=()):
+    """The picture of the calls with these numbers, as a text in SVG."""
+    bus, tables = calls_between(report, first, last)
+    lanes, lines, heads = max(report.apps(), 1), Lines(), heads_of(report, names)
     lane = next(width for most, width in LANES if lanes <= most)
     lines.text(MARGIN, 24, f"the bus: calls {bus[0].number} to {bus[-1].number} of {len(report.bus)}" if bus else "the bus: no calls", "title")
-    strip = draw_bus(lines, story, bus, lanes, lane, 84)
-    bottom = strip.y + 20
+    strips = [draw_bus(lines, story, bus, lanes, lane, 84, heads)]
+    bottom = strips[0].y + 20
     if any(call.word != "end" for call in report.tables):
         lines.text(MARGIN, bottom + 20, "the tables: calls with numbers of their own; no order is told between the two lists", "title", 100)
-        bottom = draw_tables(lines, Tables(report.tables), tables, lanes, lane, bottom + 72).y + 20
+        strips.append(draw_tables(lines, Tables(report.tables), tables, lanes, lane, bottom + 72, heads))
+        bottom = strips[1].y + 20
+    if bottom > MOST_HEIGHT:
+        fits = first + last_that_fits(strips, last) - 1
+        raise NoPicture(f"{len(bus) + len(tables)} calls make a picture {bottom:.0f} points high, and at most {MOST_HEIGHT} are shown: take --from {first} --to {fits}, or ./fsw page")
     width = NUMBERS + lane * lanes + (NOTES if story.notes else MARGIN)
     size = f'width="{width}" height="{bottom:.0f}" viewBox="0 0 {width} {bottom:.0f}"'
     head = f'<svg xmlns="http://www.w3.org/2000/svg" {size}>\n<style>{STYLE}</style>\n{markers()}'
@@ -340,13 +382,13 @@ def main(words):
     usage = argparse.ArgumentParser(prog="./fsw picture", description="draws the report on standard input, as SVG")
     usage.add_argument("--from", dest="first", type=int, default=1, metavar="N", help="the first call")
     usage.add_argument("--to", dest="last", type=int, default=sys.maxsize, metavar="N", help="the last call")
-    usage.add_argument("--script", metavar="FILE", help="the script that was run: tells the ids of messages that nobody received")
+    usage.add_argument("--script", metavar="FILE", help="the script that was run: tells names, and the ids of messages that nobody received")
     options = usage.parse_args(words)
     report = report_given()
-    ids = {number: packet.id for number, packet in script_calls_given(report, options.script).items()}
+    script = script_given(report, options.script)
     try:
-        sys.stdout.write(picture_of(report, Story(report, ids), options.first, options.last))
-    except ValueError as error:
+        sys.stdout.write(picture_of(report, script.story(report), options.first, options.last, script.names))
+    except NoPicture as error:
         tell(str(error))
         return 2
     return 0

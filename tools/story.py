@@ -139,9 +139,10 @@ class Pipes:
 class Story:
     """The messages of a report and the calls that told its events."""
 
-    def __init__(self, report, ids=None):
-        """`ids` has the id of sends by the number of their call, where a script tells them."""
-        self.report, self.ids = report, ids or {}
+    def __init__(self, report, ids=None, held=None):
+        """`ids` has the id of sends by the number of their call, and `held` the calls of events that a filter held back,
+        where a script tells them."""
+        self.report, self.ids, self.held = report, ids or {}, held or set()
         self.sent, self.names, self.tellings = {}, {}, []
         self.seen = {it.number: it for it in report.receipts if hasattr(it, "pipe")}
         self.numbered = {}
@@ -155,6 +156,8 @@ class Story:
                 pipes.follow(call)
                 self.note(call)
         self.notes = notes_of(report, self.tellings)
+        if held is None:
+            self.held = held_back(report, self.notes)
 
     def note(self, call):
         """Keeps a pipe's name, and to whom a message went."""
@@ -187,7 +190,7 @@ class Story:
         """Notes what a call that is no send tells, where the log keeps it."""
         if not call.is_done():
             return
-        if call.word == "event":
+        if call.word == "event" and call.number not in self.held:
             self.tellings.append((call, ("event",)))
         elif call.word in ("sub", "unsub"):
             there = pipes.find(int(call.given[0], 16), int(call.given[1]))
@@ -213,6 +216,13 @@ def is_told_by(event, call, what):
         return event.id == 3
     miss = what[1]
     return event.id == miss.event() and f" pipe {miss.pipe} sender {call.app}" in event.text
+
+
+def held_back(report, notes):
+    """The calls of events that the log hasn't, if these are as many as filters held back."""
+    told = {call.number for _, call in notes if call}
+    silent = {call.number for call in report.bus if call.word == "event" and call.is_done() and call.number not in told}
+    return silent if str(len(silent)) == report.counters.get("evs", {}).get("filtered") else set()
 
 
 def notes_of(report, tellings):
