@@ -22,10 +22,6 @@ _Static_assert(MOST_LINE <= 4096, "PIPE_BUF");
 /* Whose the bus's own events are. */
 static const char bus_name[] = "CFE_SB";
 
-/* Stands round a line that is printed, so that no other comes between. */
-static pthread_mutex_t printing = PTHREAD_MUTEX_INITIALIZER;
-static unsigned unprinted;
-
 void fsw_send_event_packet(const struct fsw_event *event)
 {
     CFE_EVS_LongEventTlm_t packet;
@@ -56,14 +52,18 @@ static bool write_line(int file, const char *line)
 
 void fsw_print_line(int file, const char *line)
 {
-    char missing[MOST_LINE];
-    fsw_must(pthread_mutex_lock(&printing));
-    snprintf(missing, sizeof missing, "fsw: %u lines weren't printed\n", unprinted);
-    if (unprinted > 0 && write_line(file, missing))
-        unprinted = 0;
-    if (unprinted > 0 || !write_line(file, line))
-        unprinted++;
-    fsw_must(pthread_mutex_unlock(&printing));
+    /* Lines that weren't printed: of the standard output, and of the error output. */
+    static unsigned missing[2];
+    char notice[MOST_LINE];
+    unsigned *count = &missing[file == STDERR_FILENO];
+    fsw_prepare();
+    fsw_must(pthread_mutex_lock(&fsw_layer.printing));
+    snprintf(notice, sizeof notice, "fsw: %u lines weren't printed\n", *count);
+    if (*count > 0 && write_line(file, notice))
+        *count = 0;
+    if (*count > 0 || !write_line(file, line))
+        (*count)++;
+    fsw_must(pthread_mutex_unlock(&fsw_layer.printing));
 }
 
 void fsw_print_event(const struct fsw_config *config, const struct fsw_event *event)

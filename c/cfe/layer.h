@@ -156,7 +156,8 @@ struct counter {
 };
 
 struct layer {
-    pthread_mutex_t mutex;  /* it inherits priority; fsw_prepare makes it */
+    pthread_mutex_t mutex;    /* it inherits priority; fsw_prepare makes it and the next */
+    pthread_mutex_t printing; /* stands round a line that is printed */
     pthread_cond_t changed; /* a task or an application changed its state, or fsw_stop was called */
     bool has_priorities;    /* tasks run by their priorities */
     bool has_noticed;       /* that the system doesn't allow that */

@@ -21,20 +21,26 @@ void fsw_break(void)
  * A task that has the mutex runs at the highest priority of those that wait for it, so that no task
  * of a middle priority holds them up. Where the system hasn't that, the mutex is a plain one.
  */
-static void make_mutex(void)
+static void make_mutex(pthread_mutex_t *mutex)
 {
     pthread_mutexattr_t kind;
     fsw_must(pthread_mutexattr_init(&kind));
     if (pthread_mutexattr_setprotocol(&kind, PTHREAD_PRIO_INHERIT) != 0 ||
-        pthread_mutex_init(&fsw_layer.mutex, &kind) != 0)
-        fsw_must(pthread_mutex_init(&fsw_layer.mutex, NULL));
+        pthread_mutex_init(mutex, &kind) != 0)
+        fsw_must(pthread_mutex_init(mutex, NULL));
     fsw_must(pthread_mutexattr_destroy(&kind));
+}
+
+static void make_mutexes(void)
+{
+    make_mutex(&fsw_layer.mutex);
+    make_mutex(&fsw_layer.printing);
 }
 
 void fsw_prepare(void)
 {
     static pthread_once_t once = PTHREAD_ONCE_INIT;
-    fsw_must(pthread_once(&once, make_mutex));
+    fsw_must(pthread_once(&once, make_mutexes));
 }
 
 void fsw_wake_all(void)
