@@ -16,30 +16,10 @@ use std::thread::Threads;
 const FORWARDS: &[u8] = b"route 0x0801 4\n---\napp A\nsend 0x0801 8 16\n---\n\
     app B\ncreate p0 4 B\nsub 0x0801 p0\npend p0\n";
 
-/// What both reports of it have, in every interleaving that the gate lets pass, and how often.
-const FORWARDED: [(&[u8], usize); 4] = [
-    (b" a1 send 8 235 inc -> CFE_SUCCESS 1 1\n", 1),
-    (b" a2 send 8 236 keep -> CFE_SUCCESS 1 1\n", 1),
-    (b" send ", 2),
-    (
-        b"\nreceipts\n\
-        a1 msg p1 n1 id=0x0801 seq=1 size=8 sum=236 head=0801c00100011011\nevents\n",
-        1,
-    ),
-];
-
 /// Two sides and no route.
 const WITHOUT_ROUTES: &[u8] = b"---\napp A\nsend 0x0801 8 16\n---\napp B\nhk\n";
 
-/// What both reports of it have, and how often.
-const KEPT: [(&[u8], usize); 4] = [
-    (b" a1 send 8 235 inc -> CFE_SUCCESS 0 0\n", 1),
-    (b" send ", 1),
-    (b" a2 send ", 0),
-    (b"\nbus nosub=1 send=0 ", 2),
-];
-
-/// How both begin.
+/// How the reports of both begin.
 const FRONT: &[u8] = b"side 1\nfsw 1\nbus\n1 a2 create 256 BRIDGE -> CFE_SUCCESS 1\n";
 
 /// How often a thread looks whether it may go on before the test fails.
@@ -125,7 +105,24 @@ fn bridge<R: Threads + Wait + Sync + Abort>(
 
 #[test]
 fn messages_of_routes_go_over_the_bridge(rt: HostRuntime) -> Result<(), Fail> {
-    bridge(&rt, rt.alloc(), FORWARDS, true, &FORWARDED)?;
-    bridge(&rt, rt.alloc(), WITHOUT_ROUTES, false, &KEPT)?;
+    // What the reports have in every interleaving that the gate lets pass, and how often.
+    let forwarded: [(&[u8], usize); 4] = [
+        (b" a1 send 8 235 inc -> CFE_SUCCESS 1 1\n", 1),
+        (b" a2 send 8 236 keep -> CFE_SUCCESS 1 1\n", 1),
+        (b" send ", 2),
+        (
+            b"\nreceipts\n\
+            a1 msg p1 n1 id=0x0801 seq=1 size=8 sum=236 head=0801c00100011011\nevents\n",
+            1,
+        ),
+    ];
+    let kept: [(&[u8], usize); 4] = [
+        (b" a1 send 8 235 inc -> CFE_SUCCESS 0 0\n", 1),
+        (b" send ", 1),
+        (b" a2 send ", 0),
+        (b"\nbus nosub=1 send=0 ", 2),
+    ];
+    bridge(&rt, rt.alloc(), FORWARDS, true, &forwarded)?;
+    bridge(&rt, rt.alloc(), WITHOUT_ROUTES, false, &kept)?;
     Ok(())
 }

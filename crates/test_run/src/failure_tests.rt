@@ -12,9 +12,6 @@ use std::thread::Threads;
 /// How many calls of a source or a sink are made to fail, one in each run.
 const CALLS: u32 = 60;
 
-/// How many bytes a source and a sink move at most in a call.
-const PIECES: [usize; 6] = [1, 4, 7, 10, 16, 1000];
-
 // A script that is run by this word, and its report.
 #[derive(Clone, Copy)]
 struct Trial {
@@ -22,24 +19,6 @@ struct Trial {
     script: &'static [u8],
     report: &'static [u8],
 }
-
-const TRIALS: [Trial; 3] = [
-    Trial {
-        word: "run",
-        script: MISSION,
-        report: MISSION_REPORT,
-    },
-    Trial {
-        word: "run",
-        script: SCRIPT,
-        report: REPORT,
-    },
-    Trial {
-        word: "lockstep",
-        script: SCRIPT,
-        report: REPORT,
-    },
-];
 
 // How a trial ends, and what it writes, if the source and the sink move at most a piece at a
 // time and fail at these calls.
@@ -107,15 +86,43 @@ fn fail_write<R: Threads + Wait + Sync + Abort>(
     Ok(())
 }
 
+// Has each of the trial's first reads and writes fail in turn, in each of these pieces.
+fn fail_each_call<R: Threads + Wait + Sync + Abort>(
+    rt: &R,
+    alloc: Global,
+    trial: Trial,
+    pieces: [usize; 6],
+) -> Result<(), AllocError> {
+    for piece in pieces {
+        for call in 1..=CALLS {
+            fail_read(rt, alloc, trial, piece, call)?;
+            fail_write(rt, alloc, trial, piece, call)?;
+        }
+    }
+    Ok(())
+}
+
 #[test]
 fn failures_in_turn_leave_nothing_or_a_front(rt: HostRuntime) -> Result<(), Fail> {
-    for trial in TRIALS {
-        for piece in PIECES {
-            for call in 1..=CALLS {
-                fail_read(&rt, rt.alloc(), trial, piece, call)?;
-                fail_write(&rt, rt.alloc(), trial, piece, call)?;
-            }
-        }
+    let trials = [
+        Trial {
+            word: "run",
+            script: MISSION,
+            report: MISSION_REPORT,
+        },
+        Trial {
+            word: "run",
+            script: SCRIPT,
+            report: REPORT,
+        },
+        Trial {
+            word: "lockstep",
+            script: SCRIPT,
+            report: REPORT,
+        },
+    ];
+    for trial in &trials {
+        fail_each_call(&rt, rt.alloc(), *trial, [1, 4, 7, 10, 16, 1000])?;
     }
     Ok(())
 }

@@ -40,26 +40,7 @@ const SIXTEEN: &[u8] = b"app A\nsend 0x0801 8 16\n\
 const RECEIPT: &[u8] = b"\nreceipts\n\
     a2 msg p1 n1 id=0x0801 seq=1 size=8 sum=236 head=0801c00100011011\nevents\n";
 
-/// How those of the third begin, the pipes being numbered in the order in which they were made.
-const FIFTEEN: [&[u8]; 15] = [
-    b"\na2 msg p",
-    b"\na3 msg p",
-    b"\na4 msg p",
-    b"\na5 msg p",
-    b"\na6 msg p",
-    b"\na7 msg p",
-    b"\na8 msg p",
-    b"\na9 msg p",
-    b"\na10 msg p",
-    b"\na11 msg p",
-    b"\na12 msg p",
-    b"\na13 msg p",
-    b"\na14 msg p",
-    b"\na15 msg p",
-    b"\na16 msg p",
-];
-
-/// And how each ends.
+/// How each receipt ends.
 const MESSAGE: &[u8] = b" n1 id=0x0801 seq=1 size=8 sum=236 head=0801c00100011011\n";
 
 /// How often a thread looks whether it may go on before the test fails.
@@ -166,8 +147,26 @@ fn pass<R: Threads + Wait + Sync + Abort>(
 
 #[test]
 fn two_threads_pass_a_gate_that_one_alone_cant(rt: HostRuntime) -> Result<(), Fail> {
+    // The pipes are numbered in the order in which they were made.
+    let fifteen: [&[u8]; 15] = [
+        b"\na2 msg p",
+        b"\na3 msg p",
+        b"\na4 msg p",
+        b"\na5 msg p",
+        b"\na6 msg p",
+        b"\na7 msg p",
+        b"\na8 msg p",
+        b"\na9 msg p",
+        b"\na10 msg p",
+        b"\na11 msg p",
+        b"\na12 msg p",
+        b"\na13 msg p",
+        b"\na14 msg p",
+        b"\na15 msg p",
+        b"\na16 msg p",
+    ];
     pass(&rt, rt.alloc(), TWO, 1, &[RECEIPT])?;
     pass(&rt, rt.alloc(), THREE, 1, &[RECEIPT])?;
-    pass(&rt, rt.alloc(), SIXTEEN, 15, &FIFTEEN)?;
+    pass(&rt, rt.alloc(), SIXTEEN, 15, &fifteen)?;
     Ok(())
 }
