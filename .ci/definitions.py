@@ -236,7 +236,7 @@ def followed(lines):
 
 
 def layers():
-    """The crates as crates.txt has them, the lowest first."""
+    """The crates as crates.txt has them, below each heading the lowest first."""
     named = re.findall(r'^(\w+):', (TOP / 'crates.txt').read_text(), re.M)
     return [crate for crate in named if crate in crates()] + [crate for crate in crates() if crate not in named]
 
