@@ -10,7 +10,8 @@ import threading
 import time
 from pathlib import Path
 
-SECONDS = 60
+# So long a machine that is busy may take; the age of messages is chosen so too.
+SECONDS = 180
 NAMES = ['alpha', 'beta', 'gamma']
 
 
@@ -156,7 +157,7 @@ class Net:
         groups = ',\n'.join(f'{{ name = "{name}"; address = "{self.address[name]}"; key = "{self.keys[name][0]}";\n'
                             f'  {self.peers.get(name, usual)} }}' for name in self.names)
         path = self.folder / file
-        path.write_text(f'age = 5000;\npeers = (\n{groups}\n);\n', encoding='ascii')
+        path.write_text(f'age = 30000;\npeers = (\n{groups}\n);\n', encoding='ascii')
         return path
 
 

@@ -19,7 +19,7 @@ $(BUILD)/fuzz_table: $(BUILD)/fuzz_table.fuzz.o $(FUZZED_CFE)
 	$(FUZZER)
 
 $(BUILD)/fuzz_config: $(BUILD)/fuzz_config.fuzz.o $(BUILD)/sbn_config.fuzz.o $(FUZZED_CFE)
-	$(FUZZER) $(NODE_LIBRARIES)
+	$(FUZZER) $(ZMQ)
 
 # The double ends the program if it gets no memory, so its own requests are let through.
 UNREFUSED = $(if $(LIBRARY),$(CORE),$(BUILD)/stand_in.unrefused.o $(BUILD)/fsw_text.o)
