@@ -211,7 +211,7 @@ def text_of(table):
 
 def table_below(text, heading):
     """Where the table below this heading stands in the page."""
-    found = re.compile(rf'^## {re.escape(heading)}\n.*?^((?:\|.*\n)+)', re.M | re.S).search(text)
+    found = re.compile(rf'^## {re.escape(heading)}\n.*?^((?:\|[^\n]*\n)+)', re.M | re.S).search(text)
     if not found:
         sys.exit(f'flight: {PAGE} has no table below {heading}')
     return found.span(1)
@@ -225,7 +225,7 @@ def grown(text, heading, table):
     for row in table[1]:
         for column, cell in zip(table[0], row):
             now = cell.replace(',', '')
-            was = page.get(row[0], [''] * len(columns))[columns.index(column)].replace(',', '')
+            was = dict(zip(columns, page.get(row[0], []))).get(column, '').replace(',', '')
             if now.isdigit() and (not was.isdigit() or int(now) > GROWTH * int(was)):
                 yield f'{heading}, {row[0]}, {column}: {cell}, the page has {was or "nothing"}'
 
