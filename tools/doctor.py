@@ -28,6 +28,7 @@ FOR_C = (
 TO_LOOK = (
     ("man", "man-db", "the manual: man docs/fsw.1"),
     ("rsvg-convert", "librsvg2-bin", "turns a picture into PNG or PDF"),
+    ("chromium", "chromium", "tries ./fsw page in .ci/run; any browser shows a page"),
     ("tshark", "tshark", "reads what ./fsw pcap writes, as Wireshark does"),
     ("xxd", "xxd", "spells a table file as a line of a script"),
 )
@@ -42,7 +43,7 @@ def version_of(program):
         said = subprocess.run([program, "--version"], timeout=20, **how).stdout.decode(errors="replace")
     except (OSError, subprocess.TimeoutExpired):
         return "there, but it doesn't start"
-    found = re.search(r"\d+\.\d[\w.~+-]*|\d[\d-]+", said)
+    found = re.search(r"\d+\.\d[\w.~+-]*", said) or re.search(r"\d[\d-]+", said)
     return found[0] if found else "there"
 
 
