@@ -2,6 +2,7 @@
 
 # What each program is of.
 MISSION = mission ground_link sample_app
+LABS = labs sch_lab ci_lab to_lab hk lc
 NODE = sbn_node sbn_zmq sbn_frame sbn_config
 SAMPLE = sample_test sample_app
 TEN = $(patsubst examples/ten_apps/%.c,%,$(wildcard examples/ten_apps/*.c))
@@ -18,10 +19,10 @@ INSTALLED_SHARE += examples/template
 INCLUDES += -Iexamples $(if $(IS_FOREIGN),$(addprefix -isystem ,$(SYSROOT:=/usr/include)))
 HEADERS += $(wildcard examples/*.h examples/ten_apps/*.h)
 ANALYZED += $(wildcard examples/template/*.c examples/ten_apps/*.c)
-ANALYZED += $(addprefix examples/,my_app.c two_apps.c sample_app_tbl.c $(addsuffix .c,$(MISSION) $(if $(HAS_ZMQ),$(NODE) sbn_keys)))
-PROGRAMS += $(addprefix $(BUILD)/,my_app two_apps mission ten_apps $(if $(HAS_ZMQ),sbn_node sbn_keys))
+ANALYZED += $(addprefix examples/,my_app.c two_apps.c sample_app_tbl.c $(addsuffix .c,$(MISSION) $(LABS) $(if $(HAS_ZMQ),$(NODE) sbn_keys)))
+PROGRAMS += $(addprefix $(BUILD)/,my_app two_apps mission labs ten_apps $(if $(HAS_ZMQ),sbn_node sbn_keys))
 # The programs under a sanitizer run in the whole test alone.
-SANITIZED_PROGRAMS = mission.address mission.thread ten_apps.address ten_apps.thread $(if $(HAS_ZMQ),sbn_node.address sbn_node.thread)
+SANITIZED_PROGRAMS = mission.address mission.thread labs.address labs.thread ten_apps.address ten_apps.thread $(if $(HAS_ZMQ),sbn_node.address sbn_node.thread)
 TESTS += $(addprefix $(BUILD)/,sample_app_tbl.o sample_test sample_test.address sample_test.thread $(if $(SHORT),,$(SANITIZED_PROGRAMS)))
 
 $(BUILD)/%.o: examples/test/%.c $(HEADERS) | $(BUILD)
@@ -38,6 +39,15 @@ $(BUILD)/two_apps: $(BUILD)/two_apps.o $(CFE)
 
 $(BUILD)/mission: $(call objects,MISSION) $(CFE)
 	$(CC) $(CFLAGS) -pthread -o $@ $^
+
+$(BUILD)/labs: $(call objects,LABS) $(CFE)
+	$(CC) $(CFLAGS) -pthread -o $@ $^
+
+$(BUILD)/labs.address: $(call objects,LABS,.address) $(ADDRESS_CFE)
+	$(CC) $(ADDRESS) -pthread -o $@ $^
+
+$(BUILD)/labs.thread: $(call objects,LABS,.thread) $(THREAD_CFE)
+	$(CC) $(THREAD) -pthread -o $@ $^
 
 $(BUILD)/mission.address: $(call objects,MISSION,.address) $(ADDRESS_CFE)
 	$(CC) $(ADDRESS) -pthread -o $@ $^
