@@ -13,8 +13,8 @@ static void judge(const uint8_t *datagram, size_t size, bool tests_checksum)
     GROUND_LINK_Config.tests_checksum = tests_checksum;
     if (GROUND_LINK_FaultOf(datagram, size))
         return;
-    unsigned id = datagram[0] << 8 | datagram[1], sum = 0;
     MUST(size >= 7 && size == (size_t)(datagram[4] << 8 | datagram[5]) + 7);
+    unsigned id = datagram[0] << 8 | datagram[1], sum = 0;
     MUST(id == 0x1882 || id == 0x1fff);
     for (size_t i = 0; i < size; i++)
         sum ^= datagram[i];

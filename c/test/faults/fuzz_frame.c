@@ -26,8 +26,8 @@ static void check(const SBN_Stream_t *before, const SBN_Stream_t *after, SBN_Kin
     bool is_new = after->Start > before->Start ||
                   (after->Start == before->Start && after->Last > before->Last);
     if (kind == SBN_FRAME_PACKET) {
-        uint64_t sent = number_at(frame, 16);
         MUST(is_new && size >= SBN_HEADER_BYTES + 7);
+        uint64_t sent = number_at(frame, 16);
         MUST(after->Last == number_at(frame, 0) && after->Start == number_at(frame, 8));
         MUST(sent <= now + AGE && sent + AGE >= now && after->Start <= sent);
         MUST(size - SBN_HEADER_BYTES - 7 == (size_t)(frame[28] << 8 | frame[29]));
