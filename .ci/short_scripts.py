@@ -41,7 +41,7 @@ def main():
     texts = [script(random.Random(seed)) for seed in range(count)]
     by_model = lambda text: printed([sys.executable, model, "--stage", STAGE], text)
     with ThreadPoolExecutor() as pool:
-        same = pool.map(lambda text: printed(["./fsw"], text) == by_model(text), texts)
+        same = pool.map(lambda text: printed(["crates/host_run/out/host_run"], text) == by_model(text), texts)
         for seed, is_same in enumerate(same):
             if not is_same:
                 print(f"script {seed} prints something else than the model:\n{texts[seed].decode()}")
