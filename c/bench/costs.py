@@ -21,9 +21,10 @@ BUSES = TOP.parent / 'docs' / 'bench'
 # A word, its rounds when counted, and when timed.
 ROUNDS = {'send1': (2000, 1_000_000), 'fan16': (400, 100_000), 'big': (200, 100_000), 'fanbig': (100, 50_000),
           'zc': (2000, 1_000_000), 'table': (200, 100_000), 'port1': (2000, 1_000_000), 'port2': (2000, 500_000)}
-# The most instructions of a round of the library, and how many more the layer takes at most, its mutex among them.
+# The most instructions of a round of the library, and how many more the layer takes at most, its mutex among them: a round takes it
+# twice, which is 246 instructions, since it inherits priority. A plain mutex takes 114.
 BOUNDS = {'send1': 600}
-MORE = {'send1': 190}
+MORE = {'send1': 326}
 TIMES = 5
 # What the time of a column is to be at most, beside plain_bus's.
 GOALS = {'locked': {'send1': 1.3, 'fan16': 1.3, 'zc': 1.5}, 'layer': {'send1': 1.4, 'fan16': 1.4, 'zc': 1.6}}
