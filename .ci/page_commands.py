@@ -29,6 +29,7 @@ LEFT = [
     ('', 'make -C c bench', '.ci/c_library makes it, by instructions'),
     ('README.md', 'git grep', 'it has a NAME to fill in: .ci/pages.py looks for each'),
     ('docs/ARCHITECTURE.md', 'git grep', 'it lists lemmas to read'),
+    ('docs/LINKS.md', 'c/build/', 'the configuration is the mission\'s: .ci/links runs both programs'),
     ('docs/PERFORMANCE.md', '', 'a measurement, on an idle machine'),
     ('corpus/README.md', '.ci/corpus_answers', 'it has a MODEL to fill in: .ci/run makes it'),
 ]
