@@ -35,8 +35,8 @@
 //!   (`LeavesBuffers`).
 //! - `last` shows the bytes of a pipe's last message, `held` those that a handle holds.
 //!
-//! Calls that aren't alone with their services are those of `port_calls`. The tests of `host_run`
-//! run these calls through scripts.
+//! Calls that aren't alone with their services are those of `port_calls`. `test_run` runs these
+//! calls through scripts.
 #![tactic(auto)]
 
 mod app_calls;

@@ -34,7 +34,7 @@
 //! By reading: `Regions::new` and `open` take all memory before the first call, and `run`, which
 //! makes the calls, has no allocator.
 //!
-//! Tested by `host_run`, by what its scripts print.
+//! Tested by `test_run`, by what scripts print.
 #![tactic(auto)]
 
 mod answers;

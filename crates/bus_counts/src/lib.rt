@@ -4,7 +4,7 @@
 //! Each call leaves exactly what the definitions of `Records.antt` say. Lemmas say what the records
 //! are after each shape of call of the bus.
 //!
-//! The caller below is proved, in the crate `test_bus`.
+//! The caller below is proved, in the crate `test_parts`.
 //!
 //! ```
 //! /// Tells that a pipe was subscribed to an id already; what is in use stays.
@@ -20,8 +20,7 @@
 //!
 //! - `tell` sends the desk an event of the bus and raises the event's counter, if it has one.
 //!   `tell_misses` does so for each pipe that missed a message or dropped its oldest one for it, in
-//!   order. `count` raises one counter, and `see` each peak that is
-//!   exceeded.
+//!   order. `count` raises one counter, and `see` each peak that is exceeded.
 //! - `register`, `unregister`, `send_event`, `reset_filter`, `set_log_mode` and `clear_log` change
 //!   the desk by its definitions and leave the counters. `packet` writes the housekeeping packet.
 //! - `proofs/Leaves.antt`: for each shape of call the machine leaves what these calls leave.

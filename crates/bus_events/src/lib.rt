@@ -3,7 +3,7 @@
 //!
 //! Number, kind and text of each are exactly those of `Events.antt`.
 //!
-//! The caller below is proved, in the crate `test_bus`.
+//! The caller below is proved, in the crate `test_parts`.
 //!
 //! ```
 //! /// Tells an event to the event desk.

@@ -4,7 +4,7 @@
 //! Every reader answers the header's fields exactly, every writer changes its field alone, and
 //! bytes are refused exactly if they are no message.
 //!
-//! The caller below is proved, in the crate `test_bus`.
+//! The caller below is proved, in the crate `test_parts`.
 //!
 //! ```
 //! /// Makes a telemetry packet of the whole slice, with this sequence count.

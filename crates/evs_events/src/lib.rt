@@ -5,7 +5,7 @@
 //! Each call answers and leaves exactly what the definitions of `EventDesk.antt` (of `fsw_base`)
 //! say. By the code, no call takes memory once the desk is made.
 //!
-//! The caller below is proved, in the crate `test_bus`.
+//! The caller below is proved, in the crate `test_parts`.
 //!
 //! ```
 //! /// Registers an application, and logs a service event that it is ready.

@@ -5,7 +5,7 @@
 //! Each counter shows how often it was ticked, up to 4294967295, each peak is the greatest number
 //! seen, and the packet has exactly the bytes of `housekeeping_packet`.
 //!
-//! The caller below is proved, in the crate `test_bus`.
+//! The caller below is proved, in the crate `test_parts`.
 //!
 //! ```
 //! /// Counts a subscription that stood already, and looks at what is in use.

@@ -29,7 +29,7 @@
 //! (`Writes`). `into_ports` returns both ports: of the same application and services (`Locks`),
 //! with what the calls have seen and the bags that they left.
 //!
-//! By reading: bags are read and written without the locks. Tested by `host_run`. Not claimed: how
+//! By reading: bags are read and written without the locks. Tested by `test_run`. Not claimed: how
 //! long a call waits for its turn, or a look for news.
 #![tactic(auto)]
 

@@ -56,7 +56,7 @@
 //! their peaks are kept and not counted anew.
 //!
 //! Tested by `rows_table`: it can be opened, and thirteen worked examples with each refusal answer
-//! as an executable model does; and by the tests of `host_run`.
+//! as an executable model does; and by `test_run`.
 #![tactic(auto)]
 
 mod answers;

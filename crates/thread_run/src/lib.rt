@@ -37,7 +37,7 @@
 //! first thread is started; the gate's calls are outside both locks; an application that waits for
 //! a message sleeps.
 //!
-//! Tested by `host_run`: two applications at a gate that one thread alone can't pass; scripts on
+//! Tested by `test_run`: two applications at a gate that one thread alone can't pass; scripts on
 //! threads, with reports judged by an executable model. Not claimed: time, or that a run ends.
 //!
 //! # Implementation
