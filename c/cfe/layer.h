@@ -217,7 +217,7 @@ void fsw_prepare(void);
 /* Ends the calling task, which has the mutex. */
 FSW_SELDOM _Noreturn void fsw_end_task(void);
 
-/* Does so if it was asked to end. */
+/* Ends the calling task, which has the mutex, if it was asked to end. */
 static inline void fsw_end_if_asked(void)
 {
     if (fsw_self->is_ending)
@@ -288,7 +288,7 @@ static inline CFE_Status_t fsw_leave_with(uint32_t status, CFE_Status_t otherwis
 /* Wakes those who sleep on a pipe that has a message. */
 FSW_SELDOM void fsw_wake_sleepers(void);
 
-/* Does so after a send. */
+/* Wakes those who sleep on a pipe that this send reached. */
 static inline void fsw_wake(const struct fsw_sent *sent)
 {
     if (fsw_layer.asleep && sent->reached > 0)
