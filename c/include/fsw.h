@@ -59,7 +59,7 @@ extern "C" {
 #define FSW_NO_MEMORY      0xc0000004u /* fsw_open: there isn't as much memory */
 #define FSW_NO_APPLICATION 0xc0000005u /* an application's number isn't 1 to limits.apps */
 #define FSW_TOO_LONG       0xc0000006u /* more bytes, filters or rules than the call takes */
-#define FSW_NOT_ACTIVE     0xc0000007u /* it has ended, or waits (fsw_pend) and this is no call of a table */
+#define FSW_NOT_ACTIVE     0xc0000007u /* it has ended, or it waits (fsw_pend) and asks the bus */
 #define FSW_NO_NUMBERS     0xc0000008u /* no number is left for a pipe, a subscription, a handle */
 #define FSW_NO_ROOM        0xc0000009u /* fsw_allocate_buffer: it has limits.buffers out */
 #define FSW_BUFFER_OUT \
