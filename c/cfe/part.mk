@@ -43,8 +43,8 @@ $(BUILD)/layer_held: bench/layer_held.c $(CFE) $(HEADERS)
 
 # ---- With a sanitizer: X.address, X.thread ----
 
-ADDRESS_CFE = $(CFE_OBJECTS:.o=.address.o) $(BUILD)/osapi.address.o $(if $(LIBRARY),$(CORE),$(BUILD)/stand_in.address.o $(BUILD)/fsw_text.address.o)
-THREAD_CFE = $(CFE_OBJECTS:.o=.thread.o) $(BUILD)/osapi.thread.o $(if $(LIBRARY),$(CORE),$(BUILD)/stand_in.thread.o $(BUILD)/fsw_text.thread.o)
+ADDRESS_CFE = $(CFE_OBJECTS:.o=.address.o) $(BUILD)/osapi.address.o $(if $(LIBRARY),$(CORE),$(BUILD)/fake.address.o $(BUILD)/fsw_text.address.o)
+THREAD_CFE = $(CFE_OBJECTS:.o=.thread.o) $(BUILD)/osapi.thread.o $(if $(LIBRARY),$(CORE),$(BUILD)/fake.thread.o $(BUILD)/fsw_text.thread.o)
 
 SOURCE_FOLDERS = . cfe osal cfe/test test examples examples/test examples/ten_apps
 

@@ -1,7 +1,7 @@
 /*
  * calls_test.c: each call of fsw.h accepted and refused, the bad arguments of every call, a full
  * life of the bus and the tables, and many messages in constant memory. It runs over the library or
- * over its double.
+ * over its fake.
  */
 #include "check.h"
 #include "fsw.h"

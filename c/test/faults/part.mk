@@ -1,7 +1,7 @@
 # Harnesses of faults, built by `make faults`: clang's libFuzzer on what comes from outside, and memory that is refused.
 
 FUZZ = -fsanitize=address,undefined -fno-sanitize-recover=undefined
-FUZZED_CFE = $(patsubst cfe/%.c,$(BUILD)/%.fuzz.o,$(CFE_SOURCES)) $(BUILD)/osapi.fuzz.o $(if $(LIBRARY),$(CORE),$(BUILD)/stand_in.fuzz.o $(BUILD)/fsw_text.fuzz.o)
+FUZZED_CFE = $(patsubst cfe/%.c,$(BUILD)/%.fuzz.o,$(CFE_SOURCES)) $(BUILD)/osapi.fuzz.o $(if $(LIBRARY),$(CORE),$(BUILD)/fake.fuzz.o $(BUILD)/fsw_text.fuzz.o)
 FUZZERS = $(addprefix $(BUILD)/,fuzz_datagram fuzz_frame fuzz_table $(if $(HAS_ZMQ),fuzz_config))
 ANALYZED += $(addprefix test/faults/,fuzz_datagram.c fuzz_frame.c fuzz_table.c refused_test.c $(if $(HAS_ZMQ),fuzz_config.c))
 
@@ -21,9 +21,9 @@ $(BUILD)/fuzz_table: $(BUILD)/fuzz_table.fuzz.o $(FUZZED_CFE)
 $(BUILD)/fuzz_config: $(BUILD)/fuzz_config.fuzz.o $(BUILD)/sbn_config.fuzz.o $(FUZZED_CFE)
 	$(FUZZER) $(ZMQ)
 
-# The double ends the program if it gets no memory, so its own requests are let through.
-UNREFUSED = $(if $(LIBRARY),$(CORE),$(BUILD)/stand_in.unrefused.o $(BUILD)/fsw_text.o)
-$(BUILD)/stand_in.unrefused.o: test/stand_in.c $(HEADERS) | $(BUILD)
+# The fake ends the program if it gets no memory, so its own requests are let through.
+UNREFUSED = $(if $(LIBRARY),$(CORE),$(BUILD)/fake.unrefused.o $(BUILD)/fsw_text.o)
+$(BUILD)/fake.unrefused.o: test/fake.c $(HEADERS) | $(BUILD)
 	$(COMPILE) -Dmalloc=__real_malloc -Dcalloc=__real_calloc -c $< -o $@
 
 $(BUILD)/refused_test: test/faults/refused_test.c $(BUILD)/libfsw_osal.a $(BUILD)/libfsw_cfe.a $(UNREFUSED) $(HEADERS)
