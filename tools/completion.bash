@@ -1,6 +1,6 @@
 # Completes the words of ./fsw in bash: source tools/completion.bash
 _fsw() {
-    local words='lockstep run check bridge gen soak image pack picture page json pcap test build doctor
+    local words='lockstep run check bridge gen soak image pack picture page json pcap test build new doctor
         --version --help'
     local word=${COMP_WORDS[COMP_CWORD]}
     COMPREPLY=()
@@ -13,6 +13,7 @@ _fsw() {
         picture) words='--from --to --script' ;;
         page) words='--script --other' ;;
         pcap) words='--script' ;;
+        new) words='plain threads' ;;
         build) words='--library --target x86_64 aarch64' ;;
         *) return ;;
     esac

@@ -11,7 +11,7 @@ use std::io;
 
 fn main(rt: HostRuntime) -> io::Result<()> {
     let received = plain::run(rt.alloc())?.unwrap_or(0);
-    println!(rt; "without a journal: {received} bytes were received")?;
+    println!(rt; "plain: {received} bytes were received")?;
     let (one, two) = threads::run(&rt, rt.alloc())?.unwrap_or((0, 0));
-    println!(rt; "on threads: {one} and {two} bytes were read at once")
+    println!(rt; "threads: {one} and {two} bytes were read at once")
 }
