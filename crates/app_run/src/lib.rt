@@ -38,11 +38,9 @@
 #![tactic(auto)]
 
 mod answers;
-mod handles;
 mod line_calls;
 mod receipts;
 mod regions;
-mod registers;
 mod rotating;
 mod runner;
 mod table_calls;

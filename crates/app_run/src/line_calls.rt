@@ -9,10 +9,10 @@ ghost use Rattle.app_calls.specs.Callers.{MayCallBus, MayWrite, Answers, Writes,
 ghost use Rattle.app_run.specs.Lines.{MayRun, IsRun, made_size};
 
 use crate::answers;
-use crate::registers::Registers;
 use app_calls::{Calls, make_message};
 use bus_words::{BusAnswer, Call};
 use fsw_base::{EventKind, FilterList, Scope};
+use script_calls::Registers;
 use script_lines::Line;
 
 /// Makes the call of the bus of a line, its registers filled in, and tells what it was answered;

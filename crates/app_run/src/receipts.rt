@@ -15,10 +15,9 @@ ghost use Rattle.app_run.specs.Received.{taken_from, taken_by, number_from, newe
 ghost use Rattle.app_run.specs.Received.{held_receipt, held_under, taken_at_tables, version_from, newest_version, RememberHeld};
 ghost use Rattle.app_run.specs.TableLines.{most_table_receipts};
 
-use crate::handles::Handles;
-use crate::registers::Registers;
 use app_calls::Calls;
 use bus_words::{BusAnswer, Head, Receipt, ReceiptList};
+use script_calls::{Handles, Registers};
 use script_lines::Line;
 use tbl_words::{TableReceipt, TblAnswer};
 

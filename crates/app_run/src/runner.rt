@@ -4,16 +4,15 @@ ghost use Rattle.app_script.specs.Script.{app_at};
 ghost use Rattle.app_run.specs.Lines.{made_size, filling_size, pipe_waited_for};
 ghost use Rattle.app_run.specs.Runners.{beginning, begins_line};
 
-use crate::handles::Handles;
 use crate::line_calls::{run_line, write_line};
 use crate::receipts::{show, take_address, take_got, take_receipt};
-use crate::registers::Registers;
 use crate::table_calls::run_table_line;
 use app_calls::Calls;
 use app_script::Script;
 use bus_words::{BusAnswer, ReceiptList};
 use fsw_base::AppNo;
 use sb_calls::Pended;
+use script_calls::{Handles, Registers};
 use script_lines::{Content, Line};
 use std::alloc::{AllocError, Global};
 use std::marker::Model;

@@ -7,8 +7,8 @@ ghost use Rattle.app_calls.specs.TableCallers.{MayCallTables, TablesAnswer};
 ghost use Rattle.app_run.specs.Lines.{filling_size, made_size};
 ghost use Rattle.app_run.specs.TableLines.{MayRunAtTables, IsRunAtTables};
 
-use crate::handles::Handles;
 use app_calls::{Calls, fill_payload};
+use script_calls::Handles;
 use script_lines::{Content, Line};
 use tbl_rules::RuleList;
 use tbl_words::{Call as TableCall, TblAnswer, TblCall};
