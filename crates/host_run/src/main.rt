@@ -1,10 +1,10 @@
-//! The program: `serve` of `host_serve`, on the words of the command line, standard input and
-//! standard output.
+//! The program: `serve_alone` and `serve` of `host_serve`, on the words of the command line,
+//! standard input and standard output.
 #![tactic(auto)]
 
 use fsw_base::{OpenGate, StdSink, StdSource};
 use host_serve::NO_MEMORY;
-pub use host_serve::{Audit, HostStatus, MemAudit, NoAudit, Words, serve};
+pub use host_serve::{Audit, HostStatus, MemAudit, NoAudit, Words, serve, serve_alone};
 use std::process::ExitCode;
 use std::{env, io};
 
@@ -16,15 +16,20 @@ fn main(rt: HostRuntime) -> ExitCode {
         Ok(words) => {
             let mut source = StdSource::new(rt.stdin());
             let mut sink = StdSink::new(rt.stdout());
-            let status = serve(
-                &rt,
-                rt.alloc(),
-                &words,
-                &mut source,
-                &mut sink,
-                &OpenGate,
-                &mut NoAudit,
-            );
+            // Only words that need threads are given the runtime.
+            let status = if words.need_threads() {
+                serve(
+                    &rt,
+                    rt.alloc(),
+                    &words,
+                    &mut source,
+                    &mut sink,
+                    &OpenGate,
+                    &mut NoAudit,
+                )
+            } else {
+                serve_alone(rt.alloc(), &words, &mut source, &mut sink, &mut NoAudit)
+            };
             ExitCode::from(status.exit_status())
         }
         Err(error) if error.kind() == io::ErrorKind::OutOfMemory => { ExitCode::from(NO_MEMORY) }

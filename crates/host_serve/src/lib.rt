@@ -1,9 +1,10 @@
-//! All that the program does, over any source, sink, gate and audit: [`serve`].
+//! All that the program does, over any source, sink, gate and audit: [`serve`], and [`serve_alone`]
+//! for the words that need no threads.
 //!
 //! It reads a script, runs its applications on the software bus and on Table Services, each on a
 //! thread of its own or all in rotation, and writes a report. It also runs two buses with a bridge
 //! between them, checks reports, looks at table images and packs them. The program `host_run` calls
-//! it with the words of the command line, standard input and standard output.
+//! these with the words of the command line, standard input and standard output.
 //!
 //! ```text
 //! /// How a script of one application ends in rotation: with 0, and with its report in the sink.
@@ -19,8 +20,8 @@
 //!
 //! # Proved
 //!
-//! - `serve`: what it reads, writes and shows the audit, by how it ends, and why it ends so
-//!   (`Served`). If `run`, `lockstep` or `bridge` ends done, the report is that of histories that a
+//! - `serve` and `serve_alone`: what they read, write and show the audit, by how they end, and why
+//!   they end so (`Served`). If `run`, `lockstep` or `bridge` ends done, the report is that of histories that a
 //!   run of the script may leave (`headline_on_run`, `headline`, `headline_on_bridge`).
 //! - `Words::task` answers what the words ask for (`task_of`), `HostStatus::exit_status` the number
 //!   with which the program ends.
@@ -42,6 +43,6 @@ mod words;
 
 pub use host_report::{Audit, MemAudit, NoAudit};
 pub use memory::MemoryRefusal;
-pub use serving::serve;
+pub use serving::{serve, serve_alone};
 pub use status::{HostStatus, NO_MEMORY};
 pub use words::{Task, Word, Words};

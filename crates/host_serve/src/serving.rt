@@ -78,8 +78,8 @@ pub(crate) struct ByThreads<'a, R, G> {
 /// - `Image`, on `image` if the input is no table image, and on `pack` if it has no byte; on
 ///   both if it has more than 1,048,576 bytes of a table. The line of the fault is written.
 ///
-/// On every word but `run` and `bridge` it returns: nothing that it does then waits. On `gen N` and
-/// `soak N` no answer but `Done`, `WriteFault` and `NoMemory` comes.
+/// On all words but `run` and `bridge` it is [`serve_alone`], which returns. On `gen N` and `soak N`
+/// no answer but `Done`, `WriteFault` and `NoMemory` comes.
 pub fn serve<R: Threads + Wait + Sync, S: Source, K: Sink, G: Gate, A: Audit>(
     rt: &R,
     alloc: Global,
@@ -99,12 +99,34 @@ pub fn serve<R: Threads + Wait + Sync, S: Source, K: Sink, G: Gate, A: Audit>(
         source.new sink.new audit.new in
         Served (task_of words.now) result before after }
 {
+    if !words.need_threads() {
+        return serve_alone(alloc, words, source, sink, audit);
+    }
     let threads = ByThreads { rt, gate };
     serve_guarded(&threads, Memory::new(alloc), words, source, sink, audit)
 }
 
-// Does what the words say, with the source, the sink and the audit behind guards: below here they
-// are reached in no other way.
+/// [`serve`], on all words but `run` and `bridge`. It has neither a runtime nor a gate, so it waits
+/// for nothing, and returns.
+pub fn serve_alone<S: Source, K: Sink, A: Audit>(
+    alloc: Global,
+    words: &Words,
+    source: &mut S,
+    sink: &mut K,
+    audit: &mut A,
+) -> HostStatus
+    requires { needs_threads (task_of words.now) ≡ false }
+    ensures { let before = outside S.left S.faults K.written K.faults A.shown
+        source.old sink.old audit.old in
+        let after = outside S.left S.faults K.written K.faults A.shown
+        source.new sink.new audit.new in
+        Served (task_of words.now) result before after }
+{
+    serve_guarded_alone(Memory::new(alloc), words, source, sink, audit)
+}
+
+// Does what `run` and `bridge` say, with the source, the sink and the audit behind guards: below
+// here they are reached in no other way.
 fn serve_guarded<R: Threads + Wait + Sync, G: Gate, S: Source, K: Sink, A: Audit>(
     threads: &ByThreads<'_, R, G>,
     memory: Memory,
@@ -113,6 +135,7 @@ fn serve_guarded<R: Threads + Wait + Sync, G: Gate, S: Source, K: Sink, A: Audit
     sink: &mut K,
     audit: &mut A,
 ) -> HostStatus
+    requires { needs_threads (task_of words.now) ≡ true }
     ensures { Serves (task_of words.now) result
         (fed_by S.left S.faults source.old) (fed_by S.left S.faults source.new)
         (made_by K.written K.faults A.shown sink.old audit.old)
@@ -128,8 +151,31 @@ fn serve_guarded<R: Threads + Wait + Sync, G: Gate, S: Source, K: Sink, A: Audit
     status
 }
 
-// Does what the words say. All but `run` and `bridge` go to `serve_alone`, which has no runtime, so
-// it returns.
+// The same for all other words.
+fn serve_guarded_alone<S: Source, K: Sink, A: Audit>(
+    memory: Memory,
+    words: &Words,
+    source: &mut S,
+    sink: &mut K,
+    audit: &mut A,
+) -> HostStatus
+    requires { needs_threads (task_of words.now) ≡ false }
+    ensures { Serves (task_of words.now) result
+        (fed_by S.left S.faults source.old) (fed_by S.left S.faults source.new)
+        (made_by K.written K.faults A.shown sink.old audit.old)
+        (made_by K.written K.faults A.shown sink.new audit.new) }
+{
+    let mut source = SourceGuard::new(source);
+    let mut sink = SinkGuard::new(sink);
+    let mut audit = AuditGuard::new(audit);
+    let status = serve_words_alone(memory, words, &mut source, &mut sink, &mut audit);
+    let _source = source.into_inner();
+    let _sink = sink.into_inner();
+    let _audit = audit.into_inner();
+    status
+}
+
+// Does what `run` and `bridge` say.
 fn serve_words<R: Threads + Wait + Sync, G: Gate, S: Source, K: Sink, A: Audit>(
     threads: &ByThreads<'_, R, G>,
     memory: Memory,
@@ -138,6 +184,7 @@ fn serve_words<R: Threads + Wait + Sync, G: Gate, S: Source, K: Sink, A: Audit>(
     sink: &mut SinkGuard<'_, K>,
     audit: &mut AuditGuard<'_, A>,
 ) -> HostStatus
+    requires threads { needs_threads (task_of words.now) ≡ true }
     requires no_read_failed { source.old.failed ≡ false }
     requires no_write_failed { sink.old.failed ≡ false }
     requires untouched { sink.old.untouched ≡ true }
@@ -153,7 +200,7 @@ fn serve_words<R: Threads + Wait + Sync, G: Gate, S: Source, K: Sink, A: Audit>(
     match words.task() {
         Some(Task::Run) => serve_on_threads(threads, memory, source, sink, audit),
         Some(Task::Bridge) => serve_bridge(threads, memory, source, sink, audit),
-        _ => serve_alone(memory, words, source, sink, audit),
+        _ => unreachable!(),
     }
 }
 
@@ -182,8 +229,8 @@ fn serve_on_threads<R: Threads + Wait + Sync, G: Gate, S: Source, K: Sink, A: Au
     }
 }
 
-// Does what all words but `run` and `bridge` say. It has no runtime, so it waits for nothing.
-fn serve_alone<S: Source, K: Sink, A: Audit>(
+// Does what all words but `run` and `bridge` say.
+fn serve_words_alone<S: Source, K: Sink, A: Audit>(
     mut memory: Memory,
     words: &Words,
     source: &mut SourceGuard<'_, S>,
