@@ -7,7 +7,7 @@ use crate::history::{NotedCall, Opening};
 use crate::kind::Kind;
 use crate::served::{PortCall, PortLook, ServedCore};
 use crate::service::Service;
-use crate::turns::{begin, finish, pause};
+use crate::turns::{begin, begin_awake, finish, pause};
 use fsw_base::AppNo;
 use std::marker::{Brand, Model};
 use std::sync::Wait;
@@ -86,9 +86,8 @@ impl<K: Kind> Port<K> {
         ensures left { V.leaves call bag.old bag.new result }
     {
         K::laws();
-        // While an application waits, its only call but looks is its end. It doesn't sleep before.
-        service.lock.stay_awake(&mut self.seat);
-        let mut turn = begin(service, rt, &mut self.seat);
+        // While an application waits, its only call but looks is its end.
+        let mut turn = begin_awake(service, rt, &mut self.seat);
         let told = turn
             .value_mut()
             .make::<V, Brand>(call, self.app, bag, Blank::new(1));

@@ -1,5 +1,5 @@
 //! The two ends of a turn.
-ghost use Rattle.std.specs.Prelude.{◌≡◌, true, false, Some};
+ghost use Rattle.std.specs.Prelude.{◌≡◌, ◌||◌, true, false, Some};
 ghost use Rattle.turn_lock.specs.Seats.{IsOut, IsIn, IsReady, view_of, entered_view, left_view};
 ghost use Rattle.core_port.specs.Histories.{history_of};
 ghost use Rattle.core_port.specs.Turns.{Entered, MadeOne};
@@ -32,6 +32,27 @@ pub(crate) fn begin<K: Kind, C: ServedCore<K> + Drop, R: Wait>(
     let turn = service.lock.enter(rt, seat);
     turn.value().recall();
     turn
+}
+
+/// Waits for a turn of the seat for a call that is no look. It doesn't sleep before, even if the
+/// application's last look was in vain: an application that ends needs no news.
+#[inline(always)]
+pub(crate) fn begin_awake<K: Kind, C: ServedCore<K> + Drop, R: Wait>(
+    service: &Service<K, C>,
+    rt: &R,
+    seat: &mut Seat<Opening, NotedCall<K::Call, K::Answer>>,
+) -> Turn<BoxedCore<K, C>>
+    requires { IsIn seat.old service.now }
+    ensures out { IsOut seat.new }
+    ensures kept_awake { seat.new.kept_awake ≡ (seat.old.rests || seat.old.kept_awake) }
+    ensures lock { result.lock ≡ service.now }
+    ensures found { result.found ≡ result.value }
+    ensures entered { Entered K.words (view_of seat.old) result.value.core }
+    ensures view { result.view ≡ entered_view (view_of seat.old)
+        (history_of K.words result.value.core) }
+{
+    service.lock.stay_awake(seat);
+    begin(service, rt, seat)
 }
 
 /// Ends a turn in which one call was made, and wakes the sleepers if and only if a waiting
