@@ -21,8 +21,9 @@
 //! # Proved
 //!
 //! - `serve` and `serve_alone`: what they read, write and show the audit, by how they end, and why
-//!   they end so (`Served`). If `run`, `lockstep` or `bridge` ends done, the report is that of histories that a
-//!   run of the script may leave (`headline_on_run`, `headline`, `headline_on_bridge`).
+//!   they end so (`Served`). If `run`, `lockstep` or `bridge` ends done, the report is that of
+//!   histories that a run of the script may leave (`headline_on_run`, `headline`,
+//!   `headline_on_bridge`).
 //! - `Words::task` answers what the words ask for (`task_of`), `HostStatus::exit_status` the number
 //!   with which the program ends.
 //!

@@ -78,8 +78,8 @@ pub(crate) struct ByThreads<'a, R, G> {
 /// - `Image`, on `image` if the input is no table image, and on `pack` if it has no byte; on
 ///   both if it has more than 1,048,576 bytes of a table. The line of the fault is written.
 ///
-/// On all words but `run` and `bridge` it is [`serve_alone`], which returns. On `gen N` and `soak N`
-/// no answer but `Done`, `WriteFault` and `NoMemory` comes.
+/// On all words but `run` and `bridge` it is [`serve_alone`], which returns. On `gen N` and
+/// `soak N` no answer but `Done`, `WriteFault` and `NoMemory` comes.
 pub fn serve<R: Threads + Wait + Sync, S: Source, K: Sink, G: Gate, A: Audit>(
     rt: &R,
     alloc: Global,

@@ -1,6 +1,7 @@
 //! Applications on threads, at a gate that one thread alone can't pass.
 
 use crate::scripts::{count_in, words_of};
+use crate::serve_tests::PENDING_PAIR;
 use fsw_base::{Gate, MemSink, MemSource};
 use host_serve::{HostStatus, NoAudit, serve};
 use std::alloc::{AllocError, Global};
@@ -168,5 +169,61 @@ fn two_threads_pass_a_gate_that_one_alone_cant(rt: HostRuntime) -> Result<(), Fa
     pass(&rt, rt.alloc(), TWO, 1, &[RECEIPT])?;
     pass(&rt, rt.alloc(), THREE, 1, &[RECEIPT])?;
     pass(&rt, rt.alloc(), SIXTEEN, 15, &fifteen)?;
+    Ok(())
+}
+
+// Counts the gate's calls round each of the first two lines of two applications: one adds 1, 1000
+// and so on, and any other more than all of these.
+#[derive(Drop)]
+struct CallCounts {
+    before: AtomicU64,
+    after: AtomicU64,
+}
+
+// What one call of the gate adds.
+fn weight_of(app: u32, call: u32) -> u64 {
+    match (app, call) {
+        (1, 1) => 1,
+        (1, 2) => 1000,
+        (2, 1) => 1_000_000,
+        (2, 2) => 1_000_000_000,
+        _ => 1_000_000_000_000,
+    }
+}
+
+impl Gate for CallCounts {
+    fn before(&self, app: u32, call: u32) {
+        self.before
+            .fetch_add(weight_of(app, call), Ordering::SeqCst);
+    }
+
+    fn after(&self, app: u32, call: u32) {
+        self.after.fetch_add(weight_of(app, call), Ordering::SeqCst);
+    }
+}
+
+// Each line is begun once and answered once, though one of the two waits first and looks again.
+#[test]
+fn a_line_that_waits_is_answered_once_at_the_gate(rt: HostRuntime) -> Result<(), Fail> {
+    let mut source = MemSource::new(PENDING_PAIR, 1000, &[]);
+    let mut sink = MemSink::new(rt.alloc(), 10_000, 1000, &[])?;
+    let gate = CallCounts {
+        before: AtomicU64::new(0),
+        after: AtomicU64::new(0),
+    };
+    let words = words_of(&["run"]);
+    let status = serve(
+        &rt,
+        rt.alloc(),
+        &words,
+        &mut source,
+        &mut sink,
+        &gate,
+        &mut NoAudit,
+    );
+    assert_eq!(rt; status, HostStatus::Done);
+    assert_eq!(rt; count_in(sink.written(), b" -> PENDING\n"), 1);
+    assert_eq!(rt; gate.before.load(Ordering::SeqCst), 1_001_001_001);
+    assert_eq!(rt; gate.after.load(Ordering::SeqCst), 1_001_001_001);
     Ok(())
 }

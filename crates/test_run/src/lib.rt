@@ -7,6 +7,8 @@
 #[cfg(test)]
 mod bridge_tests;
 #[cfg(test)]
+mod check_tests;
+#[cfg(test)]
 mod failure_tests;
 #[cfg(test)]
 mod gate_tests;

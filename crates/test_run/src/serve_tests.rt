@@ -85,7 +85,8 @@ const ROTATION_REPORT: &[u8] = b"fsw 1\nbus\n\
     end\n";
 
 /// Two applications that wait, each on a pipe that nobody sends to.
-const PENDING_PAIR: &[u8] = b"app A\ncreate p0 1 A\npend p0\napp B\ncreate p0 1 B\npend p0\n";
+pub(crate) const PENDING_PAIR: &[u8] =
+    b"app A\ncreate p0 1 A\npend p0\napp B\ncreate p0 1 B\npend p0\n";
 
 const PENDING_REPORT: &[u8] = b"fsw 1\nbus\n\
     1 a1 create 1 A -> CFE_SUCCESS 1\n\
