@@ -17,7 +17,7 @@ import sys
 
 U8, U16, U32, U64 = ctypes.c_uint8, ctypes.c_uint16, ctypes.c_uint32, ctypes.c_uint64
 SIZE, POINTER, FLAG = ctypes.c_size_t, ctypes.c_void_p, ctypes.c_bool
-POOL_BYTES, OVERHEAD = 2000, 16
+OVERHEAD = 16
 
 STATUS = {
     'CFE_SB_TIME_OUT': 0xCA000001, 'CFE_SB_NO_MESSAGE': 0xCA000002, 'CFE_SB_BAD_ARGUMENT': 0xCA000003,
@@ -134,6 +134,29 @@ class Served:
         self.send(b'W', packing.pack('<QQ', at, len(data)), data)
 
 
+class Places:
+    """Where the blocks of a pool lie: a place is an offset and a size."""
+
+    def __init__(self):
+        self.out = {}       # grant: place, of those that are out
+        self.free = []      # the places of the others
+        self.cut = 0        # the bytes that were cut
+
+    def due(self, size):
+        """The places that a grant of a block of this size may have: a free one, or else behind what was cut."""
+        return [place for place in self.free if place[1] == size] or [(self.cut + OVERHEAD, size)]
+
+    def give(self, grant, place):
+        if place in self.free:
+            self.free.remove(place)
+        else:
+            self.cut += OVERHEAD + place[1]
+        self.out[grant] = place
+
+    def put(self, grant):
+        self.free.append(self.out.pop(grant))
+
+
 class Run:
     """One list of calls, on both."""
 
@@ -144,7 +167,7 @@ class Run:
         self.bus = model.Bus(self.cfg, self.apps)
         self.tables = model.Tables(self.cfg, self.apps)
         self.views = {}     # key: (address, bytes) of what is held
-        self.pools = []     # by pool: grant: (offset, size), of those that are out
+        self.pools = []     # the places of each pool's blocks
         self.buffers = []   # (application, size asked for, Buffer), of those that are out
         self.room = self.draw.randint(0, 3)
         limits = Limits(**{name: getattr(self.cfg, name, 0) for name in LIMITS})
@@ -156,7 +179,7 @@ class Run:
         cfg.msgids, cfg.pipes, cfg.dests, cfg.depth = (draw.randint(1, 6) for _ in range(4))
         cfg.msgmax = draw.choice((7, 64, 200, 65542, 65542, 65542))
         cfg.pool, cfg.tablepool = draw.choice((200, 1000, 4000, 200000)), draw.choice((100, 500, 4000, 4000))
-        cfg.apppool, cfg.tables, cfg.handles = draw.choice((200, POOL_BYTES)), draw.randint(1, 5), draw.randint(1, 8)
+        cfg.apppool, cfg.tables, cfg.handles = draw.choice((200, 2000, 100000)), draw.randint(1, 5), draw.randint(1, 8)
         cfg.tablemax, cfg.version = draw.choice((4, 40)), draw.randint(1, 2)
         cfg.blockmin = draw.choice((0, 0, 8, 9, 33, 64, 80000))
         cfg.sizes = [size for size in cfg.sizes if size >= cfg.blockmin]
@@ -382,33 +405,46 @@ class Run:
     # --- pools, events, counters
 
     def pool(self, app):
-        number, size = U32(), self.draw.choice((0, 23, 24, 200, POOL_BYTES, POOL_BYTES + 1))
+        number, most = U32(), self.cfg.apppool
+        size = self.draw.choice((0, 23, 24, 200, most, most, most + 1))
         answer = self.step(self.bus, app, ('pool', size), self.ask('pool_create', app, size, ctypes.byref(number)), (number,))
         if answer and answer[0] == 'number':
-            self.pools.append({})
+            self.pools.append(Places())
+
+    def block_of(self, pool, grant):
+        """The place that the library shows."""
+        block = PoolBlock()
+        same('a block', self.ask('pool_block', pool, U64(grant), ctypes.byref(block)), 0)
+        return block.offset, block.size
 
     def pool_get(self, app):
-        pool, size, grant = self.pool_number(), self.draw.choice((0, 1, 8, 9, 30, 64, 500, 80001)), U64()
+        pool, size, grant = self.pool_number(), self.draw.choice((0, 1, 8, 9, 30, 64, 500, 9000, 80001)), U64()
         status = self.ask('pool_get', app, pool, size, ctypes.byref(grant))
         answer = self.step(self.bus, app, ('pget', pool, size), status, (grant,))
-        if not answer or answer[0] != 'number':
-            return
-        block, out = PoolBlock(), self.pools[pool - 1]
-        same('a block', self.ask('pool_block', pool, grant, ctypes.byref(block)), 0)
-        fits = block.offset % 8 == 0 and size <= block.size and block.offset + block.size <= POOL_BYTES
-        overlaps = any(block.offset < at + of and at < block.offset + block.size for at, of in out.values())
-        same('where it lies', (fits, overlaps), (True, False))
-        out[grant.value] = (block.offset, block.size)
+        if answer and answer[0] == 'number':
+            place, places = self.block_of(pool, grant.value), self.pools[pool - 1]
+            due = places.due(min(each for each in self.cfg.sizes if each >= size))
+            same(f'where {place} lies, of {due}', place in due, True)
+            places.give(grant.value, place)
+            self.check_blocks(pool)
+
+    def check_blocks(self, pool):
+        """Each grant's block lies where it lay, and no two that are out have a byte in common."""
+        out = self.pools[pool - 1].out
+        shown = {grant: self.block_of(pool, grant) for grant in out}
+        same('the places of blocks', shown, out)
+        in_order = sorted(shown.values())
+        same('blocks that overlap', [(a, b) for a, b in zip(in_order, in_order[1:]) if b[0] < a[0] + a[1]], [])
 
     def pool_put(self, app):
         pool = self.pool_number()
         grant = self.near(len(self.bus.apools[pool - 1].grants) if 1 <= pool <= len(self.pools) else 1)
         stats = PoolStats()
-        out = self.pools[pool - 1] if 1 <= pool <= len(self.pools) else {}
         status = self.ask('pool_put', app, pool, U64(grant))
         answer = self.step(self.bus, app, ('pput', pool, grant), status)
-        if answer:
-            out.pop(grant, None)
+        if answer == ('done',):
+            self.pools[pool - 1].put(grant)
+            self.check_blocks(pool)
         status = self.ask('pool_stats', pool, ctypes.byref(stats))
         reader = next((a for a in range(1, self.apps + 1) if not self.may_bus(a)), None)
         if reader:
@@ -519,9 +555,10 @@ class Run:
         handles = {number for number, handle in self.tables.handles.items() if handle.app == app}
         self.tables.call(app, ('end',), '')
         self.bus.call(app, ('end',), '')
-        for pool, out in zip(self.bus.apools, self.pools):
-            for grant in [grant for grant in out if not pool.grants[grant - 1][2]]:
-                del out[grant]
+        for number, (pool, places) in enumerate(zip(self.bus.apools, self.pools), 1):
+            for grant in [grant for grant in places.out if not pool.grants[grant - 1][2]]:
+                places.put(grant)
+            self.check_blocks(number)
         self.drop_views(lambda key: key in {('pipe', n) for n in pipes} | {('table', n) for n in handles})
         return None
 
