@@ -63,7 +63,7 @@ bags-written core bags place old new over have within value =
     bags_after core core bags place (place + 1) new refl have
     (has-written core (place + 1) old new over (bag-at core bags place (place + 1) old refl have within value)) (λ other bag differ has. has)
 
--- before the first call all have empty bags, where such a bag is anyone's
+-- before the first call all have empty bags, if such a bag is anyone's
 pub have-empty : ((core : Core) (app : ℕ) (bag : Holding LentBytes) → core.log.entries ≡ [] → 1 ≤ app → bag.views ≡ [] → bag.buffers ≡ [] → core.limits.pipes ≤ bag.view_room → HasBag core app bag) →
     (core : Core) (room buffers n : ℕ) → core.log.entries ≡ [] → core.limits.pipes ≤ room → HaveBags core (replicate n (empty_bag room buffers))
 have-empty opens core room buffers n unused enough place bag there =

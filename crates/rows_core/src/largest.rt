@@ -40,7 +40,7 @@ enum Filling {
 /// goes to a single pipe.
 ///
 /// # Errors
-/// `Memory` where there is none for the bus; `Write` where the sink fails.
+/// `Memory` if there is none for the bus; `Write` if the sink fails.
 pub fn print_largest<L: Ledger, K: Sink>(
     alloc: Global,
     sink: &mut SinkGuard<'_, K>,

@@ -100,7 +100,7 @@ impl<'r> PlayedBus<'r> {
         may
     }
 
-    /// Writes bytes over the first ones of the application's buffer; nothing where they don't fit,
+    /// Writes bytes over the first ones of the application's buffer; nothing if they don't fit,
     /// or it has no such buffer.
     pub fn put(&mut self, app: AppNo, buf: u32, bytes: &[u8]) {
         let place = (app.get() - 1) as usize;
@@ -137,7 +137,7 @@ impl<'r> PlayedBus<'r> {
     }
 
     /// The receipt of the message that the application received last from its live pipe of this
-    /// number, where there is one: the bytes are those that its bag shows.
+    /// number, if there is one: the bytes are those that its bag shows.
     pub fn last_receipt(&self, app: AppNo, pipe: u32) -> Option<Receipt> {
         let bag = self.bags.get((app.get() - 1) as usize)?;
         let message = bag.view_of(pipe)?.bytes();
@@ -168,7 +168,7 @@ fn may_transmit(core: &BusCore<'_>, app: AppNo, buf: u32, held: &Held<'_>) -> bo
     core.may_make(app, &call)
 }
 
-// Writes bytes over the first ones of a buffer in a bag, where it is there and they fit.
+// Writes bytes over the first ones of a buffer in a bag, if it is there and they fit.
 fn put_in(held: &mut Held<'_>, buf: u32, bytes: &[u8])
     ensures { IsWrittenOver held.old held.new }
 {
@@ -206,7 +206,7 @@ fn newest_number(journal: &BusJournal, pipe: u32) -> Option<u32> {
     None
 }
 
-// The number of the message that the call got from the pipe, where it got one.
+// The number of the message that the call got from the pipe, if it got one.
 fn number_from(call: &BusCall<'_>, answer: &BusAnswer, pipe: u32) -> Option<u32> {
     let BusAnswer::Got(number) = answer else {
         return None;

@@ -54,7 +54,7 @@ pub fn play<L: Ledger>(
 }
 
 /// Makes the call, which the application may make now, with its bag; whether it was accepted. False
-/// for one that sends a buffer, whose bytes are the bag's, and where the bag has no room for a
+/// for one that sends a buffer, whose bytes are the bag's, and if the bag has no room for a
 /// buffer.
 pub fn make<'r, L: Ledger>(
     core: &mut BusCore<'r>,
@@ -145,7 +145,7 @@ fn make_of_events<L: Ledger>(
     true
 }
 
-// The call of the bus that this is; None where it is none, or is one that takes its bytes from the
+// The call of the bus that this is; None if it is none, or is one that takes its bytes from the
 // bag.
 fn call_of<'b>(act: &Act, buffer: &'b mut [u8]) -> Option<BusCall<'b>> {
     Some(match act {
@@ -196,7 +196,7 @@ fn call_of<'b>(act: &Act, buffer: &'b mut [u8]) -> Option<BusCall<'b>> {
     })
 }
 
-// The call of events, or of what the bus counts, that this is; None where it is none.
+// The call of events, or of what the bus counts, that this is; None if it is none.
 fn event_call_of(act: &Act) -> Option<BusCall<'static>> {
     Some(match act {
         Act::Register(pairs) => BusCall::Register {
@@ -258,7 +258,7 @@ fn played_apart<L: Ledger>(
 }
 
 // What a call that was made left to tell. A receive lets the pipe's last message go, so there is
-// one behind it only where the receive got it.
+// one behind it only if the receive got it.
 fn outcome_of_call(played: &PlayedBus<'_>, app: AppNo, act: &Act) -> Outcome {
     let receipt = match act {
         Act::Receive(pipe) | Act::Pend(pipe) | Act::Look(pipe) => played.last_receipt(app, *pipe),

@@ -18,7 +18,7 @@ use text_page::write_text;
 /// tables is taken before the first step.
 ///
 /// # Errors
-/// `Memory` where there is none for them or for what is seen; `Write` where the sink fails.
+/// `Memory` if there is none for them or for what is seen; `Write` if the sink fails.
 pub fn print_example<L: Ledger, K: Sink>(
     alloc: Global,
     example: &Example,
@@ -84,7 +84,7 @@ fn print_played<L: Ledger, K: Sink>(
 /// Prints a title as a line.
 ///
 /// # Errors
-/// The sink's fault, where it fails.
+/// The sink's fault, if it fails.
 pub fn print_title<K: Sink>(title: &str, sink: &mut SinkGuard<'_, K>) -> Result<(), WriteFault>
     requires { sink.old.failed ≡ false }
     ensures { OnOk result (sink.new.failed ≡ false) }

@@ -55,7 +55,7 @@ impl<'r> UnusedTables<'r> {
         Ok(UnusedTables { core, bag })
     }
 
-    /// Makes the application's last call; nothing where it may not make it now.
+    /// Makes the application's last call; nothing if it may not make it now.
     pub fn end<L: Ledger>(&mut self, app: AppNo, steps: &mut Steps<L>) {
         if self.core.may_make(app, &TblCall::End) {
             self.core.end(app, &mut self.bag, steps);

@@ -8,7 +8,7 @@ use std::alloc::{AllocError, Global};
 /// The script that a line spells.
 ///
 /// # Errors
-/// `AllocError` where memory runs out.
+/// `AllocError` if memory runs out.
 pub fn spelled_script(alloc: Global, line: &[u8]) -> Result<Vec<u8>, AllocError> {
     let mut script = Vec::new(alloc);
     let mut repeated = false;
@@ -66,7 +66,7 @@ fn add_byte(script: &mut Vec<u8>, byte: u8, rest: &[u8]) -> Result<(), AllocErro
     script.extend_from_slice(rest)
 }
 
-// What a hexadecimal digit stands for; 0 where it is none.
+// What a hexadecimal digit stands for; 0 if it is none.
 fn digit(byte: u8) -> u8
     ensures { result ≤ 15 }
 {

@@ -16,7 +16,7 @@ pub const IDS: [u16; 12] = [
 /// Prints the slice as a packet of this id, with each of the three counts.
 ///
 /// # Errors
-/// The fault of the first print that fails, or `OutOfMemory` where memory for a line runs out.
+/// The fault of the first print that fails, or `OutOfMemory` if memory for a line runs out.
 pub fn print_counts(rt: &impl Print, alloc: Global, id: u16, packet: &mut [u8]) -> io::Result<()>
     requires least { 7 ≤ length packet.old }
     requires most { length packet.old ≤ 65542 }

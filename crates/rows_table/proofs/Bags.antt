@@ -36,7 +36,7 @@ alike x zero i y is = absurd (cc (is))
 alike x (suc n) zero y is = ap (λ o. option_map_or (λ v. v) o x) is
 alike x (suc n) (suc i) y is = alike x n i y is
 
--- before the first call all have empty bags, where such a bag is anyone's
+-- before the first call all have empty bags, if such a bag is anyone's
 pub have-empty : ((core : Core) (app : ℕ) (bag : HeldViews) → core.log.entries ≡ [] → bag.views ≡ [] → core.limits.handles ≤ bag.room → HasBag core app bag) →
     (core : Core) (room n : ℕ) → core.log.entries ≡ [] → core.limits.handles ≤ room → HaveBags core (replicate n (empty_bag room))
 have-empty opens core room n unused enough place bag there =

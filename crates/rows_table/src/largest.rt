@@ -34,7 +34,7 @@ enum Filling {
 /// what is in use then, and what is in use once all applications have ended.
 ///
 /// # Errors
-/// `Memory` where there is none for the tables; `Write` where the sink fails.
+/// `Memory` if there is none for the tables; `Write` if the sink fails.
 pub fn print_largest<L: Ledger, K: Sink>(
     alloc: Global,
     sink: &mut SinkGuard<'_, K>,

@@ -17,7 +17,7 @@ use text_page::{Page, finish, put, put_hex_bytes, put_number};
 /// memory of the tables is taken before the first step.
 ///
 /// # Errors
-/// `Memory` where there is none for the tables; `Write` where the sink fails.
+/// `Memory` if there is none for the tables; `Write` if the sink fails.
 pub fn print_example<L: Ledger, K: Sink>(
     alloc: Global,
     example: &Example,
@@ -148,7 +148,7 @@ fn put_figures<K: Sink>(sink: &mut SinkGuard<'_, K>, page: &mut Page, figures: T
     put_named(sink, page, b" ", figures.holds);
 }
 
-// A refusal, with the rule's number where one was failed.
+// A refusal, with the rule's number if one was failed.
 fn put_status<K: Sink>(sink: &mut SinkGuard<'_, K>, page: &mut Page, status: TblStatus) {
     put(sink, page, status.name().as_bytes());
     if let TblStatus::Validation(rule) = status {

@@ -50,7 +50,7 @@ impl<'r> Historied for Pad<'r> {
 }
 
 impl<'r> Pad<'r> {
-    /// Adds a pair and answers true; false, and nothing is added, where there is no room.
+    /// Adds a pair and answers true; false, and nothing is added, if there is no room.
     fn add(&mut self, app: u32, number: u8) -> bool
         ensures { self.new
             ≡ (

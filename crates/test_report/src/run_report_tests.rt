@@ -600,7 +600,7 @@ fn empty_journal(alloc: Global) -> Result<BusJournal, AllocError> {
     BusJournal::new(alloc, &[budget, budget])
 }
 
-// Adds the entry of the application of this number, where it has room.
+// Adds the entry of the application of this number, if it has room.
 fn enter(journal: &mut BusJournal, number: u32, call: BusCall<'_>, answer: BusAnswer) {
     if let Some(app) = AppNo::try_new(number) {
         let entry = BusEntry { app, call, answer };

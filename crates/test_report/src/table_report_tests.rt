@@ -240,7 +240,7 @@ fn in_use(tables: u32, handles: u32, bytes: u32) -> TblUse {
     }
 }
 
-// Adds the entry of the application of this number, where it has room.
+// Adds the entry of the application of this number, if it has room.
 fn enter(journal: &mut TblJournal, number: u32, call: TblCall<'_>, answer: TblAnswer) {
     if let Some(app) = AppNo::try_new(number) {
         let entry = TblEntry { app, call, answer };

@@ -4,7 +4,7 @@ use fsw_base::FaultKind;
 use std::alloc::Global;
 use std::test::Fail;
 
-// How many applications the input has, where it is a script.
+// How many applications the input has, if it is a script.
 fn apps_of(alloc: Global, input: &[u8]) -> Option<u32> {
     match read_script(alloc, input) {
         Ok(script) => Some(script.apps()),
@@ -12,7 +12,7 @@ fn apps_of(alloc: Global, input: &[u8]) -> Option<u32> {
     }
 }
 
-// The line of the input's fault, where it has one.
+// The line of the input's fault, if it has one.
 fn fault_line_of(alloc: Global, input: &[u8]) -> Option<u32> {
     match read_script(alloc, input) {
         Ok(_) => None,
@@ -36,7 +36,7 @@ fn first_fault_is_told(rt: HostRuntime) -> Result<(), Fail> {
     Ok(())
 }
 
-// The version of the script that the input is, where it is one.
+// The version of the script that the input is, if it is one.
 fn version_of(alloc: Global, input: &[u8]) -> Option<u32> {
     match read_script(alloc, input) {
         Ok(script) => Some(script.config().version),
@@ -70,7 +70,7 @@ fn lines_of_events_figures_and_tables_are_read(rt: HostRuntime) -> Result<(), Fa
     Ok(())
 }
 
-// The fault of an input, where it has one.
+// The fault of an input, if it has one.
 fn fault_of(alloc: Global, input: &[u8]) -> Option<FaultKind> {
     match read_script(alloc, input) {
         Ok(_) => None,

@@ -72,7 +72,7 @@ fn gates_know_side_2_by_numbers_of_its_own(rt: HostRuntime) -> Result<(), Fail> 
     Ok(())
 }
 
-// The line and the name of the input's fault, where it has one.
+// The line and the name of the input's fault, if it has one.
 fn fault_of(alloc: Global, input: &[u8]) -> Option<(u32, &'static str)> {
     match read_plan(alloc, input) {
         Ok(_) => None,

@@ -159,7 +159,7 @@ fn turns_until_an_entry<'r, B: LockName, R: Wait>(
     unreachable!()
 }
 
-// Takes a turn, and answers whether the history has an entry; where it has none the seat sleeps
+// Takes a turn, and answers whether the history has an entry; if it has none the seat sleeps
 // next.
 fn finds_an_entry<'r, R: Wait>(rt: &R, lock: &TurnLock<Pad<'r>>, seat: &mut Seat<usize, u8>) -> bool
     requires seat { IsReady seat.old lock.now.name }
