@@ -49,25 +49,31 @@ static void use_table(const char *name, uint16 options)
     CHECK_STATUS(CFE_TBL_ReleaseAddress(handle), CFE_SUCCESS);
 }
 
-static void send_and_receive(void)
+static void send_and_receive(const char *name)
 {
     CFE_MSG_TelemetryHeader_t packet;
     CFE_SB_Buffer_t *buffer;
     CFE_SB_PipeId_t pipe;
-    CHECK_STATUS(CFE_SB_CreatePipe(&pipe, 4, "PIPE"), CFE_SUCCESS);
+    CHECK_STATUS(CFE_SB_CreatePipe(&pipe, 4, name), CFE_SUCCESS);
     CHECK_STATUS(CFE_SB_Subscribe(0x0890, pipe), CFE_SUCCESS);
     CHECK_STATUS(CFE_MSG_Init(CFE_MSG_PTR(packet), 0x0890, sizeof packet), CFE_SUCCESS);
     CHECK_STATUS(CFE_SB_TransmitMsg(CFE_MSG_PTR(packet), true), CFE_SUCCESS);
     CHECK_STATUS(CFE_SB_ReceiveBuffer(&buffer, pipe, CFE_SB_POLL), CFE_SUCCESS);
 }
 
+/* It may run while the application still has its pipe, so its own has another name. */
+static void child(void)
+{
+    send_and_receive("CHILD");
+}
+
 static void app(void)
 {
     CFE_ES_TaskId_t task;
-    send_and_receive();
+    send_and_receive("PIPE");
     use_table("One", CFE_TBL_OPT_DEFAULT);
     use_table("Two", CFE_TBL_OPT_DBL_BUFFER);
-    CFE_ES_CreateChildTask(&task, "CHILD", send_and_receive, NULL, 0, 0, 0);
+    CFE_ES_CreateChildTask(&task, "CHILD", child, NULL, 0, 0, 0);
 }
 
 /* A run whose request of this number is refused. */
