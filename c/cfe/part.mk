@@ -12,7 +12,7 @@ INSTALLED_HEADERS += $(filter-out cfe/layer.h cfe/layer_tbl.h,$(CFE_HEADERS))
 PACKAGES += cfe/fsw_cfe.pc.in
 ANALYZED += $(CFE_SOURCES) bench/layer_cost.c bench/layer_held.c
 BENCHES += $(addprefix $(BUILD)/,layer_cost layer_held)
-TESTS += $(addprefix $(BUILD)/,layer_test services_test services_test.address es_test es_test.address layer_test.address layer_test.thread pools_test pools_test.address pools_test.thread tables_test tables_test.address tables_test.thread priority_test faults_test faults_test.address faults_test.thread threads_test threads_test.thread soak_test)
+TESTS += $(addprefix $(BUILD)/,layer_test services_test services_test.address es_test es_test.address layer_test.address layer_test.thread pools_test pools_test.address pools_test.thread tables_test tables_test.address tables_test.thread priority_test faults_test faults_test.address faults_test.thread taken_test threads_test threads_test.thread soak_test)
 
 # C++ is tried where it is installed.
 TESTS += $(if $(shell command -v $(CXX)),$(BUILD)/cpp_test)
@@ -35,6 +35,16 @@ $(BUILD)/cpp_test: cfe/test/cpp_test.cpp $(CFE) $(HEADERS)
 
 $(BUILD)/layer_cost: bench/layer_cost.c $(CFE) $(HEADERS)
 	$(COMPILE) -pthread -o $@ $< $(CFE)
+
+# The fake ends the program if it gets no memory, so its own requests are neither refused nor counted.
+UNREFUSED = $(if $(LIBRARY),$(CORE),$(BUILD)/fake.unrefused.o $(BUILD)/fsw_text.o)
+$(BUILD)/fake.unrefused.o: test/fake.c $(HEADERS) | $(BUILD)
+	$(COMPILE) -Dmalloc=__real_malloc -Dcalloc=__real_calloc -c $< -o $@
+
+REQUESTS = $(addprefix -Wl$(comma)--wrap=,malloc calloc realloc)
+
+$(BUILD)/taken_test: $(BUILD)/taken_test.o $(BUILD)/libfsw_osal.a $(BUILD)/libfsw_cfe.a $(UNREFUSED)
+	$(CC) $(CFLAGS) -pthread -o $@ $^ $(REQUESTS)
 
 WATCHED = $(addprefix -Wl$(comma)--wrap=pthread_mutex_,lock unlock)
 

@@ -21,11 +21,6 @@ $(BUILD)/fuzz_table: $(BUILD)/fuzz_table.fuzz.o $(FUZZED_CFE)
 $(BUILD)/fuzz_config: $(BUILD)/fuzz_config.fuzz.o $(BUILD)/sbn_config.fuzz.o $(FUZZED_CFE)
 	$(FUZZER) $(ZMQ)
 
-# The fake ends the program if it gets no memory, so its own requests are let through.
-UNREFUSED = $(if $(LIBRARY),$(CORE),$(BUILD)/fake.unrefused.o $(BUILD)/fsw_text.o)
-$(BUILD)/fake.unrefused.o: test/fake.c $(HEADERS) | $(BUILD)
-	$(COMPILE) -Dmalloc=__real_malloc -Dcalloc=__real_calloc -c $< -o $@
-
 $(BUILD)/refused_test: test/faults/refused_test.c $(BUILD)/libfsw_osal.a $(BUILD)/libfsw_cfe.a $(UNREFUSED) $(HEADERS)
 	$(COMPILE) -pthread -Wl,--wrap=malloc,--wrap=calloc -o $@ $(filter %.c %.a %.o,$^)
 
