@@ -18,6 +18,8 @@ use Rattle.tbl_words.specs.declared.history.Call.TheVariants as table_calls
 use Rattle.tbl_words.specs.declared.history.Entry.{Entry as TableEntry}
 use Rattle.tbl_service.specs.Ports.{DoneView as TablesDoneView}
 use Rattle.script_runs.specs.TableTrace.{own_table_entries}
+use Rattle.script_runs.proofs.HeldTables.{tables_stay}
+use Rattle.script_runs.proofs.KeptMessages.{messages_stay}
 use Rattle.app_run.specs.declared.rotating.Finished.{Finished}
 use Rattle.app_run.specs.Runners.{histories_of}
 use Rattle.app_script.specs.Script.{ScriptText}
@@ -134,6 +136,10 @@ module _ (plan : PlanText) (crossing : Crossing) (done : BridgeDone) (through : 
             ∙ ap forwarding (out.1 ∙ sym given-is);
         tables_on_one = ends_alone crossing.one through.from done.from through.on_one through.ends_on_one plan.one one.tables.log.entries side_one.bridge_at_tables;
         tables_on_two = ends_alone crossing.two through.to done.to through.on_two through.ends_on_two plan.two two.tables.log.entries side_two.bridge_at_tables;
+        messages_stay_on_one = messages_stay plan.one.limits (side_apps plan.one) one.bus.log.entries side_one.legal.bus;
+        messages_stay_on_two = messages_stay plan.two.limits (side_apps plan.two) two.bus.log.entries side_two.legal.bus;
+        tables_stay_on_one = tables_stay plan.one.limits (side_apps plan.one) one.tables.log.entries side_one.legal.tables;
+        tables_stay_on_two = tables_stay plan.two.limits (side_apps plan.two) two.tables.log.entries side_two.legal.tables;
       }
 
   pub bridged : IsBridged plan (histories_of one.bus one.tables) (histories_of two.bus two.tables)

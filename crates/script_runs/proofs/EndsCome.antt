@@ -36,6 +36,8 @@ use Rattle.script_runs.specs.TableTrace.{TableLineEntries, TableTrace, IsTableEn
 use Rattle.script_runs.specs.Trace.{AfterAnswer, IsEnd, LineEntries, Registers, Trace, call_of, first_registers, own_entries, registers_after}
 use Rattle.script_runs.specs.Written.{Written, first_written, written_after, written_by}
 use Rattle.script_runs.proofs.OneTurn.{is_ended}
+use Rattle.script_runs.proofs.HeldTables.{tables_stay}
+use Rattle.script_runs.proofs.KeptMessages.{messages_stay}
 use Rattle.script_runs.proofs.ScriptHistories.{caller-live}
 use Rattle.script_runs.proofs.TableHistories.{closed_at}
 
@@ -278,6 +280,8 @@ run-guarantees script histories run =
       alone = λ pipe. stands_alone script.limits apps pipe histories.bus run.legal;
       numbers = numbers_given_all script.limits apps histories.bus run.legal;
       pool = λ front rest is. stays_in_pool script front;
+      messages_stay = messages_stay script.limits apps histories.bus run.legal;
+      tables_stay = tables_stay script.limits apps histories.tables run.legal_tables;
       nothing = holds_nothing script.limits s
           (none_left s s.pipes (AreOwned-after script.limits apps histories.bus run.legal) all)
           (none_handed s (AreHanded-after script.limits apps histories.bus run.legal) all);

@@ -1,6 +1,8 @@
 pub mod Buffers
 pub mod EndsCome
 pub mod HeldReceipts
+pub mod HeldTables
+pub mod KeptMessages
 pub mod LastMessages
 pub mod OneTurn
 pub mod OnlyMessages
@@ -10,3 +12,4 @@ pub mod ScriptHistories
 pub mod TableHistories
 pub mod TableRotationSteps
 pub mod TableTurn
+pub mod Unwritten

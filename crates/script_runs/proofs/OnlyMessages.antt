@@ -1,5 +1,5 @@
 -- What pipes hold are messages, after every history: nothing else is delivered.
-use Rattle.std.proofs.Common.{◌≡◌, ℕ, ◌==◌, ◌&&◌, not, Bool, true, false, cond, List, [], ◌∷◌, ◌++◌, drop, Option, Some, None, IfSome, refl}
+use Rattle.std.proofs.Common.{◌≡◌, ℕ, ◌==◌, ◌&&◌, not, Bool, true, false, cond, List, [], ◌∷◌, drop, Option, Some, None, IfSome, refl}
 use Rattle.std.specs.Option.{is_some, option_and_then}
 use Rattle.ccsds_msg.specs.Message.{IsMessage, fault, front_fault, message_id}
 use Rattle.ccsds_msg.specs.declared.packet.MsgFault.{MsgFault}

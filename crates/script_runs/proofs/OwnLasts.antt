@@ -44,7 +44,7 @@ own_last-kept pipes now app number kept =
     ] refl
 
 -- a last message of its own is one of a pipe that the application owns
-own_last-some : (pipes : List Pipe) (app number : ℕ) (item : Item) → own_last pipes app number ≡ Some item → (owns pipes app number ≡ true) × (last_at pipes number ≡ Some item)
+pub own_last-some : (pipes : List Pipe) (app number : ℕ) (item : Item) → own_last pipes app number ≡ Some item → (owns pipes app number ≡ true) × (last_at pipes number ≡ Some item)
 own_last-some pipes app number item is =
     elim (owns pipes app number) as (λ b. owns pipes app number ≡ b → cond {A = Option Item} b (last_at pipes number) None ≡ Some item → (owns pipes app number ≡ true) × (last_at pipes number ≡ Some item)) [
       | true ↦ λ own last. (own, last)

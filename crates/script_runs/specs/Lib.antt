@@ -8,4 +8,5 @@ pub mod Merges
 pub mod Rotation
 pub mod Told
 pub mod Owing
+pub mod Stays
 pub mod Runs

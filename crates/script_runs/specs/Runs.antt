@@ -10,6 +10,7 @@ use Rattle.tbl_words.specs.Machine.{IsLegal as AreLegalTables, state_after as ta
 use Rattle.app_script.specs.Script.{ScriptText}
 use Rattle.script_runs.specs.Histories.{Histories}
 use Rattle.script_runs.specs.Merges.{Merges}
+use Rattle.script_runs.specs.Stays.{MessagesStay, TablesStay}
 
 -- A run of the script may have left these histories: the bus and the tables can have them under the
 -- script's limits, each answer being the machine's, and a refusal its named cause's; and they merge
@@ -33,8 +34,9 @@ pub record StaysInPool (script : ScriptText) (history : List Entry) : Type 0 whe
 -- What holds of such histories: each pipe's receipts are those of the pipe alone, a list machine
 -- under its own limits and depth over the accepted sends; the send numbers that are given are 1, 2,
 -- 3 and so on, so each is new; at no time are more blocks of the bus's pool out than were made, or
--- more of its bytes in use than it has; and behind the last entries no pipe is live, no message and
--- no buffer is held, no byte is in use, and no table and no handle is left.
+-- more of its bytes in use than it has; a message that was received stays until its receiver lets
+-- go of it, and so does a table that is held; and behind the last entries no pipe is live, no
+-- message and no buffer is held, no byte is in use, and no table and no handle is left.
 pub record Guarantees (script : ScriptText) (histories : Histories) : Type 0 where
   pub alone :
       (pipe : ℕ) →
@@ -42,6 +44,8 @@ pub record Guarantees (script : ScriptText) (histories : Histories) : Type 0 whe
       solo_receipts unmade (cut script.limits (length script.apps) pipe histories.bus)
   pub numbers : numbers_in histories.bus ≡ numbers_to (length (numbers_in histories.bus))
   pub pool : (front rest : List Entry) → histories.bus ≡ front ++ rest → StaysInPool script front
+  pub messages_stay : MessagesStay script.limits (length script.apps) histories.bus
+  pub tables_stay : TablesStay script.limits (length script.apps) histories.tables
   pub nothing : HoldsNothing script.limits
       (state_after script.limits (length script.apps) histories.bus)
   pub no_tables : HoldsNoTables script.limits
