@@ -2,7 +2,8 @@
 by the difference) and nanoseconds (the least of several runs), in one run of all.
 
     costs.py [BUILD [WORD ..]]     BUILD is make's folder (build), after `make bench`
-    costs.py --check BUILD         instructions alone; the status is 1 where a bound below isn't kept
+    costs.py --check BUILD         instructions alone; the status is 1 if one is over its figure below
+    costs.py --times [BUILD]       times alone, as rows of the table in docs/PERFORMANCE.md; on an idle machine
 
 Columns: plain_bus with its mutex; the library; the library with a mutex round each call; the layer in cFE's names, which has one;
 of times also a bus over POSIX message queues, as cFE's pipes are on Linux, and one over ZeroMQ's inproc, if it is installed.
@@ -21,11 +22,13 @@ BUSES = TOP.parent / 'docs' / 'bench'
 # A word, its rounds when counted, and when timed.
 ROUNDS = {'send1': (2000, 1_000_000), 'fan16': (400, 100_000), 'big': (200, 100_000), 'fanbig': (100, 50_000),
           'zc': (2000, 1_000_000), 'table': (200, 100_000), 'port1': (2000, 1_000_000), 'port2': (2000, 500_000)}
-# The most instructions of a round of the library, and how many more the layer takes at most, its mutex among them: a round takes it
-# twice, which is 246 instructions, since it inherits priority. A plain mutex takes 114.
-BOUNDS = {'send1': 600}
-MORE = {'send1': 326}
-TIMES = 5
+# The instructions of a round, which a change may exceed by this part.
+FIGURES = {'send1': {'library': 589, 'layer': 909}, 'fan16': {'library': 3709, 'layer': 6564}, 'zc': {'library': 946, 'layer': 1523}}
+OVER = 0.02
+# How many more than the library the layer takes at most, beyond its mutex: a round of send1 takes that twice, which is 246 instructions,
+# since it inherits priority. A plain mutex takes 114.
+MUTEX, LAYER = {'send1': 246}, {'send1': 80}
+TIMES = 9
 # What the time of a column is to be at most, beside plain_bus's.
 GOALS = {'locked': {'send1': 1.3, 'fan16': 1.3, 'zc': 1.5}, 'layer': {'send1': 1.4, 'fan16': 1.4, 'zc': 1.6}}
 # Words that calls_cost hasn't: it has one application.
@@ -107,40 +110,59 @@ def show(word, figures, unit):
     print(f'{word} {unit}: {told}', flush=True)
 
 
-def show_times(word, compared):
+def show_row(word, figures, others):
+    """A row of the page: each column's figure, empty where it hasn't the word."""
+    columns = ('plain_bus', 'library', 'locked', 'layer', *others)
+    print(f'| `{word}` | ' + ' | '.join(f'{figures[column]:,.0f}' if column in figures else '' for column in columns) + ' |', flush=True)
+
+
+def times_of(word, compared):
+    """The least of several runs, in which the programs take turns."""
     runs = [{column: timed(program, word, FEWER.get(column, 1)) for column, program in compared.items()} for _ in range(TIMES)]
-    times = {column: min(run[column] for run in runs) for column in compared}
-    show(word, times, 'ns')
+    return {column: min(run[column] for run in runs) for column in compared}
+
+
+def show_goals(word, times):
     for column, goals in GOALS.items():
         ratio = times.get(column, 0) / times['plain_bus']
         if ratio > goals.get(word, float('inf')):
             print(f"{word}: {column} takes {ratio:.2f} of plain_bus's time, over its goal of {goals[word]}")
 
 
+def faults(word, figures):
+    """What takes more than it may."""
+    for column, figure in FIGURES.get(word, {}).items():
+        if figures[column] > (1 + OVER) * figure:
+            yield f'{word}: {column} takes {figures[column]:,.0f}, over its figure of {figure:,} by more than {OVER:.0%}'
+    if word in LAYER and figures['layer'] - figures['library'] > MUTEX[word] + LAYER[word]:
+        yield f'{word}: the layer takes over {LAYER[word]} more than the library with its mutex'
+
+
 def main():
-    words = sys.argv[1:]
-    is_check = '--check' in words
-    words = [word for word in words if word != '--check']
+    options = {word for word in sys.argv[1:] if word.startswith('--')}
+    words = [word for word in sys.argv[1:] if word not in options]
     build = Path(words[0]) if words else TOP / 'build'
-    failed = False
+    wrong = []
     with tempfile.TemporaryDirectory() as folder:
         programs_of_all = programs(build, folder)
         others = other_buses(folder)
-        if is_check:
+        if '--check' in options:
             try_buses(others)
-        for word in words[1:] or (BOUNDS if is_check else ROUNDS):
+        for word in words[1:] or (FIGURES if '--check' in options else ROUNDS):
             compared = compared_on(programs_of_all, word)
-            figures = {column: counted(program, word) for column, program in compared.items()}
-            show(word, figures, 'instructions')
-            if figures.get('library', 0) > BOUNDS.get(word, float('inf')):
-                print(f'{word}: more than {BOUNDS[word]}')
-                failed = True
-            if 'library' in figures and figures['layer'] - figures['library'] > MORE.get(word, float('inf')):
-                print(f'{word}: the layer takes over {MORE[word]} more than the library')
-                failed = True
-            if not is_check:
-                show_times(word, compared | (others if word in ON_BUSES else {}))
-    return failed and is_check
+            if '--times' not in options:
+                figures = {column: counted(program, word) for column, program in compared.items()}
+                show(word, figures, 'instructions')
+                wrong += faults(word, figures)
+            if '--check' not in options:
+                times = times_of(word, compared | (others if word in ON_BUSES else {}))
+                if '--times' in options:
+                    show_row(word, times, others)
+                else:
+                    show(word, times, 'ns')
+                show_goals(word, times)
+    print('\n'.join(wrong), end='\n' if wrong else '')
+    return bool(wrong) and '--check' in options
 
 
 sys.exit(main())

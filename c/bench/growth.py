@@ -1,7 +1,7 @@
 """What a call costs, against the bus's size: instructions of a send, and of a request for a buffer, by callgrind. Rows of a table.
 
     growth.py [BUILD]          BUILD is make's folder (build), after `make bench`
-    growth.py --check BUILD    the status is 1 if a row isn't flat, or not as linear as it is to be
+    growth.py --check BUILD    the status is 1 if a row isn't flat, or linear, as it should be
 """
 import re
 import subprocess
@@ -23,10 +23,12 @@ ROWS = {
 }
 NAMES = {'pipes': 'live pipes', 'ids': 'message ids with a route', 'waiting': 'messages that wait on the pipe',
          'dests': 'pipes that it reaches', 'bytes': 'bytes that are copied', 'place': 'bytes of a buffer: asked for, and sent', 'out': 'a request for 64 bytes, against buffers that are out'}
-# A row is flat if its figures differ by no more than this part.
-FLAT, FLAT_ROWS = 0.02, ('pipes', 'ids', 'waiting', 'out')
-# The pipes after the first cost as much each, to this part.
-LINEAR = 0.05
+# A row of these is flat: its figures differ by no more than this part.
+FLAT_ROWS, PART = ('pipes', 'ids', 'waiting', 'out'), 0.02
+# Each more of these costs as much as any other, to this part.
+LINEAR_ROWS = ('dests',)
+# Each more of these costs at most one instruction, to this part: a byte is moved once. Short copies move many bytes by an instruction.
+ONCE_ROWS = ('bytes', 'place')
 
 
 def counted(build, functions, words):
@@ -51,13 +53,14 @@ def cost(build, row, value):
 
 def faults(row, figures):
     """What isn't as it is to be in a row."""
-    values = list(figures.values())
-    if row in FLAT_ROWS and max(values) > (1 + FLAT) * min(values):
-        yield f'{NAMES[row]}: {min(values)} to {max(values)}'
-    if row == 'dests':
-        each = [(figures[more] - figures[1]) / (more - 1) for more in figures if more > 1]
-        if max(each) > (1 + LINEAR) * min(each):
-            yield f'{NAMES[row]}: each more takes {min(each):.0f} to {max(each):.0f}'
+    values, least = list(figures.values()), min(figures)
+    each = [(figures[more] - figures[least]) / (more - least) for more in figures if more > least]
+    if row in FLAT_ROWS and max(values) > (1 + PART) * min(values):
+        yield f'{NAMES[row]}: {min(values)} to {max(values)}, and it should be flat'
+    if row in LINEAR_ROWS and max(each) > (1 + PART) * min(each):
+        yield f'{NAMES[row]}: each more takes {min(each):.1f} to {max(each):.1f}, and it should be linear'
+    if row in ONCE_ROWS and max(each) > 1 + PART:
+        yield f'{NAMES[row]}: each more takes {max(each):.2f}'
 
 
 def main():

@@ -5,7 +5,7 @@ CFE_OBJECTS = $(patsubst cfe/%.c,$(BUILD)/%.o,$(CFE_SOURCES))
 CFE_HEADERS = $(wildcard cfe/*.h)
 CFE = $(BUILD)/libfsw_osal.a $(BUILD)/libfsw_cfe.a $(CORE)
 
-INCLUDES += -Icfe
+INCLUDES += -Icfe -Icfe/test
 HEADERS += $(CFE_HEADERS) $(wildcard cfe/test/*.h)
 LIBRARIES += $(BUILD)/libfsw_cfe.a
 INSTALLED_HEADERS += $(filter-out cfe/layer.h cfe/layer_tbl.h,$(CFE_HEADERS))

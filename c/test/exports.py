@@ -16,6 +16,8 @@ HEADER = Path(__file__).resolve().parent.parent / 'include' / 'fsw.h'
 NUMBERS = {'uint8_t': 'u8', 'uint16_t': 'u16', 'uint32_t': 'u32', 'uint64_t': 'u64', 'size_t': 'usize', 'bool': 'bool'}
 # What a handle or a buffer points to stands in a struct of its own, which owns it.
 OWNED = {'FswCore': ['held: HeldCore', 'is_open: u64'], 'FswBuffer': ['lent: LentBlock', 'number: u64', 'is_out: u64']}
+# A struct of one number comes back as the number does, by the ABI of x86-64 and of AArch64.
+RETURNED = {'FswOpened': 'u32'}
 
 # What the header's inline functions alone answer: a null pointer for a call of the tables, another version.
 INLINE = {'0xcc00002d', '0xc000000b'}
@@ -84,7 +86,7 @@ def exported(paths):
     functions = {}
     for name, inside, kind in re.findall(r'pub extern "C" fn (\w+)\((.*?)\) -> (\w+)', text, re.S):
         each = [part.strip() for part in inside.split(',') if part.strip() and 'Global' not in part]
-        functions[name] = f'({", ".join(each)}) -> {kind}'
+        functions[name] = f'({", ".join(each)}) -> {RETURNED.get(kind, kind)}'
     structs = {}
     for name, inside in re.findall(r'#\[repr\(C\)\][^{]*?pub struct (\w+) \{(.*?)\n\}', text, re.S):
         fields = re.findall(r'^\s*(?:pub(?:\(crate\))? )?(?!ghost)(\w+: [^,]+),', inside, re.M)

@@ -8,15 +8,10 @@
  * send1, fan16    a message of 64 bytes is sent to 1 or 16 pipes, and received on each
  * big, fanbig     the same with 32768 bytes
  */
+#include "sends.h"
+
 #include <fcntl.h>
 #include <mqueue.h>
-#include <pthread.h>
-#include <stdbool.h>
-#include <stdint.h>
-#include <stdio.h>
-#include <stdlib.h>
-#include <string.h>
-#include <unistd.h>
 
 /* Without a right of its own a process gets queues of 10 messages. */
 enum { IDS = 4, MOST_DESTS = 16, MOST_PIPES = IDS * MOST_DESTS, DEPTH = 10, BLOCKS = 16, FIRST_ID = 0x0801 };
@@ -173,33 +168,10 @@ static unsigned long carry(unsigned long rounds, uint32_t size, uint32_t dests)
     return received;
 }
 
-static void *park(void *nothing)
-{
-    pause();
-    return nothing;
-}
-
 int main(int argc, char **argv)
 {
-    static const struct {
-        const char *word;
-        uint32_t size, dests;
-    } sends[] = {{"send1", 64, 1}, {"fan16", 64, 16}, {"big", 32768, 1}, {"fanbig", 32768, 16}};
-    const char *word = argc > 1 ? argv[1] : "";
-    const unsigned long rounds = argc > 2 ? strtoul(argv[2], NULL, 10) : 0;
-    pthread_t other;
-    if (pthread_create(&other, NULL, park, NULL) != 0)
-        return 1;
     for (size_t i = 0; i < BLOCKS; i++)
         bus.block[i].next = i + 1 < BLOCKS ? &bus.block[i + 1] : NULL;
     bus.free = bus.block;
-    for (size_t i = 0; i < sizeof sends / sizeof sends[0]; i++)
-        if (strcmp(word, sends[i].word) == 0) {
-            if (!open_pipes(sends[i].dests))
-                return 1;
-            const unsigned long received = carry(rounds, sends[i].size, sends[i].dests);
-            printf("%s rounds=%lu received=%lu\n", word, rounds, received);
-            return received == rounds * sends[i].dests ? 0 : 1;
-        }
-    return 2;
+    return do_word(argc, argv, open_pipes, carry);
 }

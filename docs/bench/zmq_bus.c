@@ -7,13 +7,8 @@
  * send1, fan16    a message of 64 bytes is sent to 1 or 16 pipes, and received on each
  * big, fanbig     the same with 32768 bytes
  */
-#include <pthread.h>
-#include <stdbool.h>
-#include <stdint.h>
-#include <stdio.h>
-#include <stdlib.h>
-#include <string.h>
-#include <unistd.h>
+#include "sends.h"
+
 #include <zmq.h>
 
 enum { IDS = 4, MOST_DESTS = 16, MOST_PIPES = IDS * MOST_DESTS, MOST_LEFT = 1000, FIRST_ID = 0x0801 };
@@ -95,7 +90,7 @@ static bool join_all(uint32_t dests)
     return true;
 }
 
-static unsigned long carry(unsigned long rounds, size_t size, uint32_t dests)
+static unsigned long carry(unsigned long rounds, uint32_t size, uint32_t dests)
 {
     unsigned long received = 0;
     uint8_t *message = calloc(1, size);
@@ -119,31 +114,19 @@ static void close_bus(uint32_t dests)
     zmq_ctx_term(context);
 }
 
-static void *park(void *nothing)
+static unsigned long carry_and_close(unsigned long rounds, uint32_t size, uint32_t dests)
 {
-    pause();
-    return nothing;
+    const unsigned long received = carry(rounds, size, dests);
+    close_bus(dests);
+    return received;
+}
+
+static bool open_and_join(uint32_t dests)
+{
+    return open_bus(dests) && join_all(dests);
 }
 
 int main(int argc, char **argv)
 {
-    static const struct {
-        const char *word;
-        uint32_t size, dests;
-    } sends[] = {{"send1", 64, 1}, {"fan16", 64, 16}, {"big", 32768, 1}, {"fanbig", 32768, 16}};
-    const char *word = argc > 1 ? argv[1] : "";
-    const unsigned long rounds = argc > 2 ? strtoul(argv[2], NULL, 10) : 0;
-    pthread_t other;
-    if (pthread_create(&other, NULL, park, NULL) != 0)
-        return 1;
-    for (size_t i = 0; i < sizeof sends / sizeof sends[0]; i++)
-        if (strcmp(word, sends[i].word) == 0) {
-            if (!open_bus(sends[i].dests) || !join_all(sends[i].dests))
-                return 1;
-            const unsigned long received = carry(rounds, sends[i].size, sends[i].dests);
-            close_bus(sends[i].dests);
-            printf("%s rounds=%lu received=%lu\n", word, rounds, received);
-            return received == rounds * sends[i].dests ? 0 : 1;
-        }
-    return 2;
+    return do_word(argc, argv, open_and_join, carry_and_close);
 }

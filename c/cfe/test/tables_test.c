@@ -6,6 +6,7 @@
 #include "cfe_msgids.h"
 #include "cfe_tbl_events.h"
 #include "cfe_tbl_msg.h"
+#include "command.h"
 #include "run_apps.h"
 
 #include <fcntl.h>
@@ -669,16 +670,7 @@ static CFE_SB_PipeId_t replies, packets;
 /* Sends a command with a payload, to be answered by this event; 0: by none. */
 static void command(CFE_MSG_FcnCode_t code, const void *payload, size_t size, uint16 event)
 {
-    union {
-        CFE_MSG_Message_t message;
-        uint8 bytes[200];
-    } packet;
-    size_t header = sizeof(CFE_MSG_CommandHeader_t);
-    CHECK_STATUS(CFE_MSG_Init(&packet.message, CFE_TBL_CMD_MID, header + size), CFE_SUCCESS);
-    CHECK_STATUS(CFE_MSG_SetFcnCode(&packet.message, code), CFE_SUCCESS);
-    if (size > 0)
-        memcpy(packet.bytes + header, payload, size);
-    CHECK_STATUS(CFE_SB_TransmitMsg(&packet.message, true), CFE_SUCCESS);
+    send_command(CFE_TBL_CMD_MID, code, payload, size);
     expect_event(replies, event);
     expect_event(replies, 0);
 }

@@ -7,6 +7,7 @@
 #include "cfe_msgids.h"
 #include "cfe_tbl_events.h"
 #include "check.h"
+#include "command.h"
 #include "fsw_run.h"
 #include "sample_app.h"
 
@@ -15,20 +16,6 @@
 
 static const char *folder = ".";
 static CFE_SB_PipeId_t hk_pipe, event_pipe;
-
-static void send_command(uint32 id, CFE_MSG_FcnCode_t code, const void *argument, size_t length)
-{
-    union {
-        CFE_MSG_Message_t Msg;
-        uint8 bytes[128];
-    } packet;
-    size_t header = sizeof(CFE_MSG_CommandHeader_t);
-    CHECK_STATUS(CFE_MSG_Init(&packet.Msg, id, header + length), CFE_SUCCESS);
-    CHECK_STATUS(CFE_MSG_SetFcnCode(&packet.Msg, code), CFE_SUCCESS);
-    if (length > 0)
-        memcpy(packet.bytes + header, argument, length);
-    CHECK_STATUS(CFE_SB_TransmitMsg(&packet.Msg, true), CFE_SUCCESS);
-}
 
 /* The next event, which is to be this one's, with this id and text. */
 static void expect_event_of(const char *app, uint16 id, const char *text)

@@ -85,7 +85,10 @@ pub view_there : (found : Option (Bor LentBytes)) (last : Option (List ℕ)) →
 view_there None last same is = subst IsSome (sym same) is
 view_there (Some view) last same is = refl
 
-pub length_shown : (found : Option (Bor LentBytes)) (view : Bor LentBytes) (last : Option (List ℕ)) → found ≡ Some view → option_map (λ (view : LentBytes). view.bytes) (option_map (λ (v : Bor LentBytes). v.now) found) ≡ last →
-    Some (length view.now.bytes) ≡ option_map (λ (bytes : List ℕ). length bytes) last
-length_shown found view last is same =
-    ap (option_map (λ (bytes : List ℕ). length bytes)) (sym (ap (λ (o : Option (Bor LentBytes)). option_map (λ (view : LentBytes). view.bytes) (option_map (λ (v : Bor LentBytes). v.now) o)) is) ∙ same)
+pub last_seen : (found : Option (Bor LentBytes)) (view : Bor LentBytes) (last : Option (List ℕ)) → found ≡ Some view → option_map (λ (view : LentBytes). view.bytes) (option_map (λ (v : Bor LentBytes). v.now) found) ≡ last →
+    last ≡ Some view.now.bytes
+last_seen found view last is same =
+    sym same ∙ ap (λ (o : Option (Bor LentBytes)). option_map (λ (view : LentBytes). view.bytes) (option_map (λ (v : Bor LentBytes). v.now) o)) is
+
+pub length_shown : (len : ℕ) (bytes : List ℕ) (last : Option (List ℕ)) → len ≡ length bytes → last ≡ Some bytes → Some len ≡ option_map (λ (bytes : List ℕ). length bytes) last
+length_shown len bytes last as_long is = ap Some as_long ∙ sym (ap (option_map (λ (bytes : List ℕ). length bytes)) is)

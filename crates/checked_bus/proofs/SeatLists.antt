@@ -1,6 +1,7 @@
 -- Lists of seats: one is taken out, forgotten, or put back.
 use Rattle.std.proofs.Common.{◌≡◌, ℕ, zero, suc, ◌+◌, ◌<◌, ◌≤◌, Bool, true, false, not, cond, eqb, ltb, List, [], ◌∷◌, ◌++◌, length, take, drop, get_or, filter, find, slice_get, Some, None, refl, ap, sym, ◌∙◌, subst, arith}
 use Rattle.std.specs.List.{All, insert, remove, position, position_or_len, before_first, after_first}
+use Rattle.std.specs.Option.{option_map_or}
 use Rattle.std.proofs.lemmas.Bool.{eqb-true, eq-eqb}
 use Rattle.std.proofs.lemmas.Bool.Decides.{nat_tests}
 use Rattle.std.proofs.lemmas.List.Elements.{All-append, All-take, All-drop, All-cons}
@@ -26,6 +27,14 @@ module _ {X : Type 0} (p : X → Bool) where
           let below : position_or_len p xs < length xs = grind (arith, nat_tests) in
           omega (arith, below, at)
       by_test false e = absurd (cc (is, e))
+
+  pub first_there : (xs : List X) → option_map_or p (slice_get xs 0) false ≡ true → position p xs ≡ Some 0
+  first_there [] never = absurd (cc (never))
+  first_there (x ∷ xs) is =
+      let Place : Bool → ℕ = λ b. cond (not b) (1 + position_or_len p xs) 0 in
+      let At : Bool → Type 0 = λ b. cond (ltb (Place b) (length (x ∷ xs))) (Some (Place b)) None ≡ Some 0 in
+      let within : ltb 0 (suc (length xs)) ≡ true = grind (arith, nat_tests) in
+      subst At (sym is) (ap (λ b. cond b (Some 0) None) within)
 
   past_none : (xs : List X) (i : ℕ) → length xs ≤ i → slice_get xs i ≡ None
   past_none [] zero at = refl

@@ -1,7 +1,7 @@
 //! The bag of an application whose buffers' blocks are lent out of it, to be written in place.
-ghost use Rattle.std.specs.Prelude.{◌≡◌, ◌==◌, ◌&&◌, not, ◌+◌, ◌-◌, ◌<◌, ◌≤◌, false, [], ◌∷◌, Some, None, length, take, filter, slice_get, vec_len, vec_capacity, IfOk, OnErr, IsSome, IsTrue, replicate, Err, nat_lt};
+ghost use Rattle.std.specs.Prelude.{◌≡◌, ◌==◌, ◌&&◌, not, ◌+◌, ◌-◌, ◌<◌, ◌≤◌, false, [], ◌∷◌, Some, None, length, take, filter, slice_get, slice_index_or, vec_len, vec_capacity, IfOk, OnErr, IsSome, IsTrue, replicate, Err, nat_lt};
 ghost use Rattle.std.specs.List.{insert, remove, position, All};
-ghost use Rattle.std.specs.Option.{option_map};
+ghost use Rattle.std.specs.Option.{option_map, option_map_or};
 ghost use Rattle.bus_words.specs.declared.calls.BusAnswer.TheVariants.{Done};
 ghost use Rattle.bus_words.specs.declared.history.Call.TheVariants.{Allocate, TransmitBuffer, Release, Receive, Pend, Look, Delete, End};
 ghost use Rattle.buf_desc.specs.Block.{Unsent};
@@ -21,7 +21,7 @@ use bus_core::{Pended, PlainBus, Sent};
 use fsw_base::{AppNo, SbStatus};
 use housekeeping::CounterName;
 use lend_block::View;
-use ruled_out::surely_some;
+use ruled_out::{ruled_out, surely_some};
 use std::alloc::{AllocError, Global};
 use std::marker::Model;
 use step_count::{Ledger, Steps};
@@ -175,7 +175,7 @@ impl<'r> LentBag<'r> {
         let answer = core.transmit_buffer_lending(app, number, inc, &mut self.held, steps);
         match answer {
             Ok(_) => forget(&mut self.seats, number),
-            Err(_) => *buffer = lend(&mut self.held, &mut self.seats, number, place),
+            Err(_) => *buffer = lend_again(&mut self.held, &mut self.seats, number, place),
         }
         answer
     }
@@ -208,7 +208,7 @@ impl<'r> LentBag<'r> {
         let answer = core.release_lending(app, number, &mut self.held, steps);
         match answer {
             Ok(()) => forget(&mut self.seats, number),
-            Err(_) => *buffer = lend(&mut self.held, &mut self.seats, number, place),
+            Err(_) => *buffer = lend_again(&mut self.held, &mut self.seats, number, place),
         }
         answer
     }
@@ -234,7 +234,7 @@ impl<'r> LentBag<'r> {
     {
         let number = core.receive_lending(app, pipe, &mut self.held, steps)?;
         let view = surely_some(self.held.view_of(pipe));
-        Ok(ReceivedMessage::of(number, view.bytes()))
+        Ok(ReceivedMessage::of(core, app, pipe, number, view.bytes()))
     }
 
     /// [`PlainBus::pend`].
@@ -307,15 +307,42 @@ impl<'r> LentBag<'r> {
     }
 }
 
-// The place of the first seat of a number.
+// The place of the first seat of a number. That of the buffer that was asked for first is found
+// without a search.
+#[inline(always)]
 fn place_of(seats: &Vec<Seat>, number: u64) -> Option<usize>
+    ensures { result ≡ position (λ seat. seat.number == number) seats.now.items }
+{
+    if is_first(seats, number) {
+        return Some(0);
+    }
+    place_among(seats, number)
+}
+
+// Whether the first seat has the number.
+#[inline(always)]
+fn is_first(seats: &Vec<Seat>, number: u64) -> bool
+    ensures { result ≡
+        option_map_or (λ seat. seat.number == number) (slice_get seats.now.items 0) false }
+{
+    match seats.first() {
+        Some(seat) => seat.number() == number,
+        None => false,
+    }
+}
+
+// The place of the first seat of a number, searched for. It is apart, so that the way without a
+// search is short; so is all that is apart below.
+#[inline(never)]
+fn place_among(seats: &Vec<Seat>, number: u64) -> Option<usize>
     ensures { result ≡ position (λ seat. seat.number == number) seats.now.items }
 {
     seats.iter().position(|seat| seat.number() == number)
 }
 
 // Takes the block of a seat back into the bag, which has no other: the buffer's memory is the
-// block's.
+// block's. It is apart, so that the bag's insertion is compiled into it.
+#[inline(never)]
 fn take_back<'r>(
     held: &mut Held<'r>,
     seats: &mut Vec<Seat>,
@@ -336,12 +363,38 @@ fn take_back<'r>(
         } }
     ensures gone { buffer.new ≡ no_buffer }
 {
-    let space = buffer.take().unwrap();
-    let seat = seats.remove(place);
+    let space = surely_some(buffer.take());
+    let seat = remove_at(seats, place);
     held.put_buffer(seat.take_back(space));
 }
 
+// Takes the seat at a place out of a list. From the end it moves no other.
+#[inline(always)]
+fn remove_at(seats: &mut Vec<Seat>, place: usize) -> Seat
+    requires within { place < length seats.old.items }
+    ensures value { result ≡ slice_index_or seats.old.items place result }
+    ensures items { seats.new.items ≡ remove seats.old.items place }
+    ensures capacity { vec_capacity seats.new ≡ vec_capacity seats.old }
+{
+    if place + 1 == seats.len() {
+        return surely_some(seats.pop());
+    }
+    remove_within(seats, place)
+}
+
+// Takes the seat at a place out of a list. It is apart.
+#[inline(never)]
+fn remove_within(seats: &mut Vec<Seat>, place: usize) -> Seat
+    requires within { place < length seats.old.items }
+    ensures value { result ≡ slice_index_or seats.old.items place result }
+    ensures items { seats.new.items ≡ remove seats.old.items place }
+    ensures capacity { vec_capacity seats.new ≡ vec_capacity seats.old }
+{
+    seats.remove(place)
+}
+
 // Lends the block of a buffer out of the bag; its seat goes to this place.
+#[inline(always)]
 fn lend<'r>(held: &mut Held<'r>, seats: &mut Vec<Seat>, number: u64, place: usize) -> LentBuffer<'r>
     requires there { IsSome (buffer_at held.old number) }
     requires within { place ≤ length seats.old.items }
@@ -359,26 +412,70 @@ fn lend<'r>(held: &mut Held<'r>, seats: &mut Vec<Seat>, number: u64, place: usiz
         seats.new.items ≡ insert seats.old.items place (seat_of block) }
     ensures capacity { vec_capacity seats.old ≤ vec_capacity seats.new }
 {
-    let block = held.take_buffer(number).unwrap();
+    let block = surely_some(held.take_buffer(number));
     put_at(seats, place, block.seat());
     LentBuffer::of(number, block.into_space())
 }
 
-// Puts a seat at a place of a list that has room for it.
+// [`lend`], for a call that was refused. It is apart.
+#[inline(never)]
+fn lend_again<'r>(
+    held: &mut Held<'r>,
+    seats: &mut Vec<Seat>,
+    number: u64,
+    place: usize,
+) -> LentBuffer<'r>
+    requires there { IsSome (buffer_at held.old number) }
+    requires within { place ≤ length seats.old.items }
+    requires room { vec_len seats.old < vec_capacity seats.old }
+    ensures number { result.number ≡ number }
+    ensures whole { option_map (λ bytes. length bytes) result.bytes ≡
+        option_map (λ block. block.size) (buffer_at held.old number) }
+    ensures bytes { take (length (bytes_at held.old number)) (bytes_in result) ≡
+        bytes_at held.old number }
+    ensures held { held.new ≡
+        record held.old {
+          buffers = without_first (λ block. block.number == number) held.old.buffers;
+        } }
+    ensures seats { (block : Unsent) → buffer_at held.old number ≡ Some block →
+        seats.new.items ≡ insert seats.old.items place (seat_of block) }
+    ensures capacity { vec_capacity seats.old ≤ vec_capacity seats.new }
+{
+    lend(held, seats, number, place)
+}
+
+// Puts a seat at a place of a list that has room for it. At the end it moves no other.
+#[inline(always)]
 fn put_at(seats: &mut Vec<Seat>, place: usize, seat: Seat)
     requires within { place ≤ length seats.old.items }
     requires room { vec_len seats.old < vec_capacity seats.old }
     ensures items { seats.new.items ≡ insert seats.old.items place seat }
     ensures capacity { vec_capacity seats.old ≤ vec_capacity seats.new }
 {
+    if place == seats.len() {
+        seats.push_reserved(seat);
+        return;
+    }
     match seats.insert(place, seat) {
         Ok(()) => {}
-        Err(_) => unreachable!(),
+        Err(_) => ruled_out!(),
     }
 }
 
 // Leaves the seats of other numbers.
+#[inline(always)]
 fn forget(seats: &mut Vec<Seat>, number: u64)
+    ensures items { seats.new.items ≡ filter (λ seat. not (seat.number == number)) seats.old.items }
+    ensures capacity { vec_capacity seats.new ≡ vec_capacity seats.old }
+{
+    if !seats.is_empty() {
+        forget_among(seats, number);
+    }
+}
+
+// Leaves the seats of other numbers. It is apart.
+#[inline(never)]
+fn forget_among(seats: &mut Vec<Seat>, number: u64)
     ensures items { seats.new.items ≡ filter (λ seat. not (seat.number == number)) seats.old.items }
     ensures capacity { vec_capacity seats.new ≡ vec_capacity seats.old }
 {

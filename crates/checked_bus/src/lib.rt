@@ -47,6 +47,6 @@ mod waits;
 
 pub use boxed::SbBox;
 pub use lent_buffer::LentBuffer;
-pub use received_message::ReceivedMessage;
+pub use received_message::{ReceivedMessage, first_of};
 pub use refusal::Refusal;
 pub use waits::LookAnswer;

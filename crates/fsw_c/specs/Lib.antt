@@ -8,6 +8,7 @@ pub mod EndAnswers
 pub mod Figures
 pub mod Lent
 pub mod Limits
+pub mod Opened
 pub mod Owned
 pub mod Rules
 pub mod Shown

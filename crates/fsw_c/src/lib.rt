@@ -26,9 +26,10 @@
 //!   (`TableCall`) is the same of the tables, and leaves the bus.
 //! - What an export writes is the answer's own value. One that is refused writes nothing (`kept`).
 //! - The length and the number of a received message are those of the application's last message on
-//!   the pipe (`shown`, `number`). No clause has an address: that the pointer is the message's is
-//!   to be read in `FswBytes::of` and in `ReceivedMessage::of` of `checked_bus`, which take pointer
-//!   and length from one slice.
+//!   the pipe (`shown`, `number`). A receive has its pointer of a `ReceivedMessage`, which is made
+//!   of no other bytes than that message's (`of` of `checked_bus`). That the export hands it on is
+//!   to be read there; elsewhere `FswBytes::of` takes pointer and length from one slice.
+//! - An opening answers that there isn't as much memory of a `MemoryRefusal` alone (`FswOpened`).
 //! - A buffer that C writes in place is sent as C left it (`written_in`), under its number; if the
 //!   call is refused, C keeps it with what it wrote (`stays`).
 //! - A handle and a buffer may go to another thread (`Send`).
@@ -48,6 +49,7 @@ mod holding;
 mod lent;
 mod limits;
 mod messages;
+mod opened;
 mod opening;
 mod parts;
 mod pipes;

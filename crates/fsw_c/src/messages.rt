@@ -50,6 +50,19 @@ pub struct FswMessage {
 }
 
 impl FswMessage {
+    // A message where it lies.
+    fn where_received(message: ReceivedMessage) -> FswMessage
+        ensures begins { result.at ≡ message.at }
+        ensures length { result.len ≡ message.len }
+        ensures number { result.number ≡ message.number }
+    {
+        FswMessage {
+            at: message.at,
+            len: message.len,
+            number: message.number,
+        }
+    }
+
     // The message of this number that the application received last on the pipe.
     fn of(bus: &SbBox<'static>, app: u32, pipe: u32, number: u64) -> FswMessage
         ensures length { result.len ≡ shown_length (last_shown bus.now app pipe) }
@@ -138,8 +151,8 @@ pub extern "C" fn fsw_raw_receive(
     };
     let answer = it.bus.receive::<Brand>(app, pipe, Blank::new(1));
     *core = FswCore::open(it);
-    if let Ok(Ok(ReceivedMessage { number, at, len })) = answer {
-        *message = FswMessage { at, len, number };
+    if let Ok(Ok(given)) = answer {
+        *message = FswMessage::where_received(given);
     }
     code_of_call(&answer)
 }

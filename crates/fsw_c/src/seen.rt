@@ -1,9 +1,11 @@
 //! What C reads where it lies.
-ghost use Rattle.std.specs.Prelude.{◌≡◌, length};
+ghost use Rattle.std.specs.Prelude.{◌≡◌, length, IfSome};
 ghost use Rattle.std.specs.Option.{option_map};
+ghost use Rattle.std.specs.Ptr.{as_ptr};
 ghost use Rattle.fsw_c.specs.Shown.{shown_length};
 
-use std::ptr::{from_ref, null};
+use checked_bus::first_of;
+use std::ptr::null;
 
 /// Bytes that are read where they lie.
 #[repr(C)]
@@ -18,7 +20,8 @@ pub struct FswBytes {
 impl FswBytes {
     /// These bytes.
     pub(crate) fn of(bytes: &[u8]) -> FswBytes
-        ensures { result.len ≡ length bytes.now }
+        ensures begins { result.at ≡ as_ptr bytes.entry }
+        ensures length { result.len ≡ length bytes.now }
     {
         FswBytes {
             at: first_of(bytes),
@@ -28,19 +31,12 @@ impl FswBytes {
 
     /// These bytes, if there are some.
     pub(crate) fn of_any(bytes: Option<&[u8]>) -> FswBytes
-        ensures { result.len ≡ shown_length (option_map (λ it. it.now) bytes.entry) }
+        ensures begins { IfSome bytes.entry (λ it. result.at ≡ as_ptr it) }
+        ensures length { result.len ≡ shown_length (option_map (λ it. it.now) bytes.entry) }
     {
         match bytes {
             Some(it) => FswBytes::of(it),
             None => FswBytes { at: null(), len: 0 },
         }
-    }
-}
-
-/// Where the bytes begin; null if there are none.
-pub(crate) fn first_of(bytes: &[u8]) -> *const u8 {
-    match bytes.first() {
-        Some(first) => from_ref(first),
-        None => null(),
     }
 }

@@ -35,10 +35,13 @@ ghost use Rattle.checked_bus.specs.Box.{KeepsOtherBags, bag_of};
 ghost use Rattle.checked_tables.specs.Asked.{unasked as unasked_tables};
 ghost use Rattle.checked_tables.specs.Box.{KeepsOtherBags as KeepsOtherTables, bag_of as table_bag_of};
 
+mod memory;
+
 use checked_bus::{Refusal, SbBox};
 use checked_tables::TblBox;
 use fsw_base::Config;
-use std::alloc::{AllocError, Global};
+pub use memory::MemoryRefusal;
+use std::alloc::Global;
 use step_count::{Blank, Ledger};
 
 /// The bus and the tables of the same applications.
@@ -63,8 +66,8 @@ impl Core {
     /// unsent buffers.
     ///
     /// # Errors
-    /// `AllocError` if memory runs out.
-    pub fn new(alloc: Global, cfg: &Config, apps: u32, buffers: u32) -> Result<Core, AllocError>
+    /// A [`MemoryRefusal`] if memory runs out.
+    pub fn new(alloc: Global, cfg: &Config, apps: u32, buffers: u32) -> Result<Core, MemoryRefusal>
         requires apps { apps ≤ 16 }
         ensures bus { IfOk result
             (λ core. core.bus.core ≡
@@ -94,24 +97,24 @@ impl Core {
             (λ core. core.tables.bags ≡
             replicate apps (record { views = []; room = cfg.now.handles })) }
     {
-        let messages = vec![in alloc; 0; cfg.pool as usize]?;
-        let values = vec![in alloc; 0; cfg.tablepool as usize]?;
-        let work = vec![in alloc; 0; 4 * cfg.tablemax as usize]?;
-        let bus = SbBox::new(alloc, cfg, apps, buffers, messages.leak())?;
-        let tables = TblBox::new(alloc, cfg, apps, values.leak(), work.leak())?;
+        let messages = memory::zeros(alloc, cfg.pool as usize)?;
+        let values = memory::zeros(alloc, cfg.tablepool as usize)?;
+        let work = memory::zeros(alloc, 4 * cfg.tablemax as usize)?;
+        let bus = memory::bus(alloc, cfg, apps, buffers, messages.leak())?;
+        let tables = memory::tables(alloc, cfg, apps, values.leak(), work.leak())?;
         Ok(Core { bus, tables })
     }
 
     /// The same in a box.
     ///
     /// # Errors
-    /// `AllocError` if memory runs out.
+    /// A [`MemoryRefusal`] if memory runs out.
     pub fn new_boxed(
         alloc: Global,
         cfg: &Config,
         apps: u32,
         buffers: u32,
-    ) -> Result<Box<Core>, AllocError>
+    ) -> Result<Box<Core>, MemoryRefusal>
         requires apps { apps ≤ 16 }
         ensures bus { IfOk result
             (λ core. (box_value core).bus.core ≡
@@ -142,7 +145,7 @@ impl Core {
             replicate apps (record { views = []; room = cfg.now.handles })) }
     {
         let core = Core::new(alloc, cfg, apps, buffers)?;
-        Ok(Box::new(alloc, core)?)
+        memory::box_of(alloc, core)
     }
 
     /// Drops the core. The memory of messages and tables stays taken.

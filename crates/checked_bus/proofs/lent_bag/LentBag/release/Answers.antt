@@ -52,8 +52,8 @@ invariant_of-self-in-Ok g c =
     let forgot = c.forget.ensures.items ∙ ap (left c.number-number.result) c.take_back.ensures.seats in
     ok_kept come c.self.invariant.0 c.take_back.new.held kept c.release_lending-answer.new.self c.release_lending-answer.new.held c.forget.new.seats.items c.release_lending-answer.ensures.bag c.release_lending-answer.ensures.buffers none c.release_lending-answer.ensures.views forgot (vec_capacity c.self.inside.seats) (vec_capacity c.forget.new.seats) c.self.invariant (c.forget.ensures.capacity ∙ c.take_back.ensures.capacity)
 
-pub lend-requires-clause-there : goal.lend-requires-clause-there
-lend-requires-clause-there g c =
+pub lend_again-requires-clause-there : goal.lend_again-requires-clause-there
+lend_again-requires-clause-there g c =
     let come = comes c.args.core.now c.args.app c.self.inside.held c.self.inside.seats.items c.self.inside.room c.args.self.now c.args.buffer.now c.number-number.result c.in-Some.place c.self.view_is c.number-number.ensures (sym c.in-Some.ensures) c.self.invariant.4 c.requires.fits c.requires.bag in
     let kept = c.take_back.ensures.held come.seat come.at in
     subst (λ (b : Holding LentBytes). is_some (buffer_at b c.number-number.result) ≡ true) (sym c.in-Err.ensures.bag_refused) (kept_there come c.self.invariant.0 c.take_back.new.held kept)
@@ -62,8 +62,8 @@ pub invariant_of-self-in-Err : goal.invariant_of-self-in-Err
 invariant_of-self-in-Err g c =
     let come = comes c.args.core.now c.args.app c.self.inside.held c.self.inside.seats.items c.self.inside.room c.args.self.now c.args.buffer.now c.number-number.result c.in-Some.place c.self.view_is c.number-number.ensures (sym c.in-Some.ensures) c.self.invariant.4 c.requires.fits c.requires.bag in
     let kept = c.take_back.ensures.held come.seat come.at in
-    let put = λ (block : Unsent) (at : buffer_at c.release_lending-answer.new.held c.number-number.result ≡ Some block). c.lend.ensures.seats block at ∙ ap (λ (bs : List Unsent). insert bs c.in-Some.place (seat_of block)) c.take_back.ensures.seats in
-    err_kept come c.self.invariant.0 c.take_back.new.held kept c.release_lending-answer.new.held c.lend.new.held c.lend.new.seats.items c.lend.result c.in-Err.ensures.bag_refused c.lend.ensures.held put (vec_capacity c.self.inside.seats) (vec_capacity c.lend.new.seats) c.self.invariant (omega (arith, c.lend.ensures.capacity, c.take_back.ensures.capacity))
+    let put = λ (block : Unsent) (at : buffer_at c.release_lending-answer.new.held c.number-number.result ≡ Some block). c.lend_again.ensures.seats block at ∙ ap (λ (bs : List Unsent). insert bs c.in-Some.place (seat_of block)) c.take_back.ensures.seats in
+    err_kept come c.self.invariant.0 c.take_back.new.held kept c.release_lending-answer.new.held c.lend_again.new.held c.lend_again.new.seats.items c.lend_again.result c.in-Err.ensures.bag_refused c.lend_again.ensures.held put (vec_capacity c.self.inside.seats) (vec_capacity c.lend_again.new.seats) c.self.invariant (omega (arith, c.lend_again.ensures.capacity, c.take_back.ensures.capacity))
 
 pub returns-in-Ok-clause-buffers : goal.returns-in-Ok-clause-buffers
 returns-in-Ok-clause-buffers g c =
@@ -93,33 +93,33 @@ pub returns-in-Err-clause-bag_refused : goal.returns-in-Err-clause-bag_refused
 returns-in-Err-clause-bag_refused g c =
     let come = comes c.args.core.now c.args.app c.self.inside.held c.self.inside.seats.items c.self.inside.room c.args.self.now c.args.buffer.now c.number-number.result c.in-Some.place c.self.view_is c.number-number.ensures (sym c.in-Some.ensures) c.self.invariant.4 c.requires.fits c.requires.bag in
     let kept = c.take_back.ensures.held come.seat come.at in
-    let put = λ (block : Unsent) (at : buffer_at c.release_lending-answer.new.held c.number-number.result ≡ Some block). c.lend.ensures.seats block at ∙ ap (λ (bs : List Unsent). insert bs c.in-Some.place (seat_of block)) c.take_back.ensures.seats in
-    on_err c.release_lending-answer.result (err_bag come c.self.invariant.0 c.take_back.new.held kept c.release_lending-answer.new.held c.lend.new.held c.lend.new.seats.items c.lend.result c.in-Err.ensures.bag_refused c.lend.ensures.held put)
+    let put = λ (block : Unsent) (at : buffer_at c.release_lending-answer.new.held c.number-number.result ≡ Some block). c.lend_again.ensures.seats block at ∙ ap (λ (bs : List Unsent). insert bs c.in-Some.place (seat_of block)) c.take_back.ensures.seats in
+    on_err c.release_lending-answer.result (err_bag come c.self.invariant.0 c.take_back.new.held kept c.release_lending-answer.new.held c.lend_again.new.held c.lend_again.new.seats.items c.lend_again.result c.in-Err.ensures.bag_refused c.lend_again.ensures.held put)
 
 pub returns-in-Err-clause-stays : goal.returns-in-Err-clause-stays
 returns-in-Err-clause-stays g c =
     let come = comes c.args.core.now c.args.app c.self.inside.held c.self.inside.seats.items c.self.inside.room c.args.self.now c.args.buffer.now c.number-number.result c.in-Some.place c.self.view_is c.number-number.ensures (sym c.in-Some.ensures) c.self.invariant.4 c.requires.fits c.requires.bag in
     let kept = c.take_back.ensures.held come.seat come.at in
-    let put = λ (block : Unsent) (at : buffer_at c.release_lending-answer.new.held c.number-number.result ≡ Some block). c.lend.ensures.seats block at ∙ ap (λ (bs : List Unsent). insert bs c.in-Some.place (seat_of block)) c.take_back.ensures.seats in
-    on_err c.release_lending-answer.result (err_stays come c.self.invariant.0 c.take_back.new.held kept c.release_lending-answer.new.held c.lend.new.held c.lend.new.seats.items c.lend.result c.in-Err.ensures.bag_refused c.lend.ensures.held put c.lend.ensures.number c.lend.ensures.whole c.lend.ensures.bytes)
+    let put = λ (block : Unsent) (at : buffer_at c.release_lending-answer.new.held c.number-number.result ≡ Some block). c.lend_again.ensures.seats block at ∙ ap (λ (bs : List Unsent). insert bs c.in-Some.place (seat_of block)) c.take_back.ensures.seats in
+    on_err c.release_lending-answer.result (err_stays come c.self.invariant.0 c.take_back.new.held kept c.release_lending-answer.new.held c.lend_again.new.held c.lend_again.new.seats.items c.lend_again.result c.in-Err.ensures.bag_refused c.lend_again.ensures.held put c.lend_again.ensures.number c.lend_again.ensures.whole c.lend_again.ensures.bytes)
 
 pub returns-in-Err-clause-buffers : goal.returns-in-Err-clause-buffers
 returns-in-Err-clause-buffers g c =
     let come = comes c.args.core.now c.args.app c.self.inside.held c.self.inside.seats.items c.self.inside.room c.args.self.now c.args.buffer.now c.number-number.result c.in-Some.place c.self.view_is c.number-number.ensures (sym c.in-Some.ensures) c.self.invariant.4 c.requires.fits c.requires.bag in
     let kept = c.take_back.ensures.held come.seat come.at in
-    let put = λ (block : Unsent) (at : buffer_at c.release_lending-answer.new.held c.number-number.result ≡ Some block). c.lend.ensures.seats block at ∙ ap (λ (bs : List Unsent). insert bs c.in-Some.place (seat_of block)) c.take_back.ensures.seats in
-    λ other apart. ap (λ (b : Holding LentBytes). buffer_at b other) (err_bag come c.self.invariant.0 c.take_back.new.held kept c.release_lending-answer.new.held c.lend.new.held c.lend.new.seats.items c.lend.result c.in-Err.ensures.bag_refused c.lend.ensures.held put)
+    let put = λ (block : Unsent) (at : buffer_at c.release_lending-answer.new.held c.number-number.result ≡ Some block). c.lend_again.ensures.seats block at ∙ ap (λ (bs : List Unsent). insert bs c.in-Some.place (seat_of block)) c.take_back.ensures.seats in
+    λ other apart. ap (λ (b : Holding LentBytes). buffer_at b other) (err_bag come c.self.invariant.0 c.take_back.new.held kept c.release_lending-answer.new.held c.lend_again.new.held c.lend_again.new.seats.items c.lend_again.result c.in-Err.ensures.bag_refused c.lend_again.ensures.held put)
 
 pub returns-in-Err-clause-bag : goal.returns-in-Err-clause-bag
 returns-in-Err-clause-bag g c =
     let come = comes c.args.core.now c.args.app c.self.inside.held c.self.inside.seats.items c.self.inside.room c.args.self.now c.args.buffer.now c.number-number.result c.in-Some.place c.self.view_is c.number-number.ensures (sym c.in-Some.ensures) c.self.invariant.4 c.requires.fits c.requires.bag in
     let kept = c.take_back.ensures.held come.seat come.at in
-    let put = λ (block : Unsent) (at : buffer_at c.release_lending-answer.new.held c.number-number.result ≡ Some block). c.lend.ensures.seats block at ∙ ap (λ (bs : List Unsent). insert bs c.in-Some.place (seat_of block)) c.take_back.ensures.seats in
-    err_has come c.self.invariant.0 c.take_back.new.held kept c.release_lending-answer.new.held c.lend.new.held c.lend.new.seats.items c.lend.result c.in-Err.ensures.bag_refused c.lend.ensures.held put c.release_lending-answer.new.self Send c.in-Err.ensures.refused
+    let put = λ (block : Unsent) (at : buffer_at c.release_lending-answer.new.held c.number-number.result ≡ Some block). c.lend_again.ensures.seats block at ∙ ap (λ (bs : List Unsent). insert bs c.in-Some.place (seat_of block)) c.take_back.ensures.seats in
+    err_has come c.self.invariant.0 c.take_back.new.held kept c.release_lending-answer.new.held c.lend_again.new.held c.lend_again.new.seats.items c.lend_again.result c.in-Err.ensures.bag_refused c.lend_again.ensures.held put c.release_lending-answer.new.self Send c.in-Err.ensures.refused
 
 pub returns-in-Err-clause-views : goal.returns-in-Err-clause-views
 returns-in-Err-clause-views g c =
     let come = comes c.args.core.now c.args.app c.self.inside.held c.self.inside.seats.items c.self.inside.room c.args.self.now c.args.buffer.now c.number-number.result c.in-Some.place c.self.view_is c.number-number.ensures (sym c.in-Some.ensures) c.self.invariant.4 c.requires.fits c.requires.bag in
     let kept = c.take_back.ensures.held come.seat come.at in
-    let put = λ (block : Unsent) (at : buffer_at c.release_lending-answer.new.held c.number-number.result ≡ Some block). c.lend.ensures.seats block at ∙ ap (λ (bs : List Unsent). insert bs c.in-Some.place (seat_of block)) c.take_back.ensures.seats in
-    views_same (seen c.lend.new.held c.lend.new.seats.items c.self.inside.room) c.args.self.now (err_bag come c.self.invariant.0 c.take_back.new.held kept c.release_lending-answer.new.held c.lend.new.held c.lend.new.seats.items c.lend.result c.in-Err.ensures.bag_refused c.lend.ensures.held put)
+    let put = λ (block : Unsent) (at : buffer_at c.release_lending-answer.new.held c.number-number.result ≡ Some block). c.lend_again.ensures.seats block at ∙ ap (λ (bs : List Unsent). insert bs c.in-Some.place (seat_of block)) c.take_back.ensures.seats in
+    views_same (seen c.lend_again.new.held c.lend_again.new.seats.items c.self.inside.room) c.args.self.now (err_bag come c.self.invariant.0 c.take_back.new.held kept c.release_lending-answer.new.held c.lend_again.new.held c.lend_again.new.seats.items c.lend_again.result c.in-Err.ensures.bag_refused c.lend_again.ensures.held put)

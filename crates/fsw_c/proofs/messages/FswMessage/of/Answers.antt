@@ -9,4 +9,4 @@ use Rattle.fsw_c.proofs.messages.FswMessage.of.Goals as goal
 pub returns-clause-length : goal.returns-clause-length
 returns-clause-length c =
     let core = c.args.bus.now.core in
-    c.of_any-at.ensures ∙ ap shown_length (shown (is_application core c.args.app) _ (last_message core c.args.app c.args.pipe) c.message.ensures.known (λ out. ap (λ (it : Option (Bor (List ℕ))). option_map (λ bytes. bytes.now) it) (c.message.ensures.unknown out)))
+    c.of_any-at.ensures.length ∙ ap shown_length (shown (is_application core c.args.app) _ (last_message core c.args.app c.args.pipe) c.message.ensures.known (λ out. ap (λ (it : Option (Bor (List ℕ))). option_map (λ bytes. bytes.now) it) (c.message.ensures.unknown out)))
