@@ -105,7 +105,7 @@ def main(name, kind):
     with open(listing, "a", encoding="utf-8") as file:
         file.write(("" if f"\n{HEADING}\n" in listed else f"\n{HEADING}\n") + f"{name}: {USES[kind]}\n")
     tell(f"crates/{name} is laid out, and crates.txt names it")
-    tell(f"cd crates/{name} && rt try runs it at once, rt check proves it")
+    tell(f"cd crates/{name} && rt try runs it at once, rt check proves it; docs/RATTLE.md leads on from there")
     return 0
 
 

@@ -92,19 +92,34 @@ fn listen<'r, R: Wait>(rt: &R, bus: &Bus<'r>, port: &mut BusPort<'r>, name: &[u8
     requires { port.old.lock ≡ bus.now }
     ensures { port.new.lock ≡ port.old.lock }
 {
+    let pipe = create(rt, bus, port, name)?;
+    subscribe(rt, bus, port, pipe).then_some(pipe)
+}
+
+// Makes a pipe. Answers its number.
+fn create<'r, R: Wait>(rt: &R, bus: &Bus<'r>, port: &mut BusPort<'r>, name: &[u8]) -> Option<u32>
+    requires { port.old.lock ≡ bus.now }
+    ensures { port.new.lock ≡ port.old.lock }
+{
     let depth = 4;
     if !port.may_make(&BusCall::Create { depth, name }) {
         return None;
     }
-    let pipe = port.create_pipe(bus, rt, depth, name).ok()?;
+    port.create_pipe(bus, rt, depth, name).ok()
+}
+
+// Subscribes a pipe to the messages. Answers whether it was accepted.
+fn subscribe<'r, R: Wait>(rt: &R, bus: &Bus<'r>, port: &mut BusPort<'r>, pipe: u32) -> bool
+    requires { port.old.lock ≡ bus.now }
+    ensures { port.new.lock ≡ port.old.lock }
+{
     let call = BusCall::Subscribe {
         id: ID,
         pipe,
         limit: 4,
         scope: Scope::Global,
     };
-    let done = port.may_make(&call) && port.subscribe(bus, rt, ID, pipe, 4, Scope::Global).is_ok();
-    done.then_some(pipe)
+    port.may_make(&call) && port.subscribe(bus, rt, ID, pipe, 4, Scope::Global).is_ok()
 }
 
 // Sends the message, and receives it.

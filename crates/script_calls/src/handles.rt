@@ -38,6 +38,7 @@ impl Handles {
     }
 
     /// The number in a register; 0 if there is no such register.
+    #[inline]
     pub fn at(&self, register: u32) -> u32
         ensures { result ≡ slice_index self.now register }
     {
@@ -45,6 +46,7 @@ impl Handles {
     }
 
     /// Notes what a line's call was answered.
+    #[inline]
     #[tactic(auto, unfolding(script_runs::specs::TableTrace::handles_after))]
     pub fn note(&mut self, line: &Line, answer: &TblAnswer)
         ensures { self.new ≡ handles_after self.old line.now answer.now }
@@ -60,6 +62,7 @@ impl Handles {
 }
 
 // The handle of a successful answer, 0 of a refusal.
+#[inline]
 fn handle_of(answer: &TblAnswer) -> u32
     ensures { result ≡ handle_of answer.now }
 {

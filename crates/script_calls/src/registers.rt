@@ -56,6 +56,7 @@ impl Registers {
     }
 
     /// The number in a register of pipes; 0 if there is no such register.
+    #[inline]
     pub fn pipe(&self, register: u32) -> u32
         ensures { result ≡ slice_index self.now.pipes register }
     {
@@ -63,6 +64,7 @@ impl Registers {
     }
 
     /// The number in a register of buffers; 0 if there is no such register.
+    #[inline]
     pub fn buffer(&self, register: u32) -> u32
         ensures { result ≡ slice_index self.now.buffers register }
     {
@@ -70,6 +72,7 @@ impl Registers {
     }
 
     /// The number in a register of pools; 0 if there is no such register.
+    #[inline]
     pub fn pool(&self, register: u32) -> u32
         ensures { result ≡ slice_index self.now.pools register }
     {
@@ -77,6 +80,7 @@ impl Registers {
     }
 
     /// The number in a register of grants; 0 if there is no such register.
+    #[inline]
     pub fn grant(&self, register: u32) -> u32
         ensures { result ≡ slice_index self.now.grants register }
     {
@@ -84,6 +88,7 @@ impl Registers {
     }
 
     /// Notes what a line's call was answered.
+    #[inline]
     #[tactic(auto, unfolding(script_runs::specs::Trace::registers_after))]
     pub fn note(&mut self, line: &Line, answer: &BusAnswer)
         ensures { self.new ≡ registers_after self.old line.now answer.now }
@@ -100,6 +105,7 @@ impl Registers {
 }
 
 /// The number at a place; 0 if there is no such place.
+#[inline]
 pub(crate) fn value_in(numbers: &[u32], place: u32) -> u32
     ensures { result ≡ slice_index numbers.now place }
 {
@@ -110,6 +116,7 @@ pub(crate) fn value_in(numbers: &[u32], place: u32) -> u32
 }
 
 /// Puts a number at a place, if there is that place.
+#[inline]
 pub(crate) fn set(numbers: &mut [u32], place: u32, number: u32)
     ensures { numbers.new ≡ slice_set numbers.old place number }
 {
@@ -119,6 +126,7 @@ pub(crate) fn set(numbers: &mut [u32], place: u32, number: u32)
 }
 
 // The number of a successful answer, 0 of a refusal.
+#[inline]
 fn number_of(answer: &BusAnswer) -> u32
     ensures { result ≡ number_of answer.now }
 {
