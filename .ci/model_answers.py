@@ -13,12 +13,10 @@ def model_of(path):
     return model
 
 
-def config_with(model, limits):
-    """The model's usual configuration but for these limits."""
-    config = model.Config()
-    for limit, value in limits.items():
-        setattr(config, limit, value)
-    return config
+def answer_by(model, words, text):
+    """The status and the output on these words, if this is read."""
+    model.INPUT = text
+    return model.serve(words, model.stage_number(STAGE))
 
 
 def print_or_compare(wanted, path=None):

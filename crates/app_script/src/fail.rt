@@ -13,7 +13,7 @@ pub enum ReadFail {
     #[error("out of memory")]
     Memory(AllocError),
     /// This is wrong with the script.
-    #[error("line {}: {}", .0.line, .0.kind.name())]
+    #[error("a fault in the script")]
     Fault(ScriptFault),
 }
 

@@ -31,7 +31,7 @@
 //! - `Reading` reads a script line by line, for a text of which the script is a part: each line
 //!   leaves what the grammar says (`after_line`), or its first fault.
 //!
-//! Tested: a script, and one with a fault; 220 scripts by `rows_faults`.
+//! Tested: a script, and one with a fault; many more by `rows_runs`.
 #![tactic(auto)]
 
 mod app;

@@ -71,7 +71,7 @@
 //! By reading: only [`PlainBus::new`] and [`PlainBus::new_bag`] take memory, and what is in use is
 //! read in constant time. Not yet: a bound on the steps of `delete_pipe` and `end`.
 //!
-//! Tested by `rows_core` and `test_run`, through `sb_calls`; `bus_example` opens it alone.
+//! Tested by `rows_runs` and `test_run`, through `sb_calls`; `bus_example` opens it alone.
 #![tactic(auto)]
 
 mod activities;

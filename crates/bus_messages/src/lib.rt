@@ -71,7 +71,7 @@
 //! By reading: a send writes each byte once but for the two of the count; a transmitted buffer's
 //! message stays in its block; only `new` takes memory.
 //!
-//! Tested by what is built on it: `rows_core`, `bus_example`, `test_run`.
+//! Tested by what is built on it: `rows_runs`, `bus_example`, `test_run`.
 //! Not yet: a bound on the steps of `delete_pipe`.
 #![tactic(auto)]
 

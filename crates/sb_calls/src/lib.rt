@@ -81,7 +81,7 @@
 //! By reading: only [`BusCore::new`] takes memory. Not claimed: the steps of `delete_pipe` and
 //! `end`, which let each waiting message go.
 //!
-//! Tested by `rows_core` and `test_run`.
+//! Tested by `rows_runs` and `test_run`.
 #![tactic(auto)]
 
 mod answers;

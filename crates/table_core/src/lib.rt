@@ -53,7 +53,7 @@
 //! By reading: only [`PlainTables::new`] takes memory; the numbers of `in_use` are kept and not
 //! counted anew. A load writes no working buffer, though it is refused if four are taken.
 //!
-//! Tested by `rows_table` and `test_run`, through `tbl_load`.
+//! Tested by `rows_runs` and `test_run`, through `tbl_load`.
 #![tactic(auto)]
 
 mod answers;

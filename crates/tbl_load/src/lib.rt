@@ -55,8 +55,8 @@
 //! By reading: only [`TblCore::new`] and `HeldTables::new` take memory; the numbers in use and
 //! their peaks are kept and not counted anew.
 //!
-//! Tested by `rows_table`: it can be opened, and thirteen worked examples with each refusal answer
-//! as an executable model does; and by `test_run`.
+//! Tested by `rows_runs`: it can be opened, and answers each refusal but `ErrNoAccess` as an
+//! executable model does, this one in `c/test`; and by `test_run`.
 #![tactic(auto)]
 
 mod answers;

@@ -1,7 +1,6 @@
 //! Applications on threads, at a gate that one thread alone can't pass.
 
 use crate::scripts::{count_in, words_of};
-use crate::serve_tests::PENDING_PAIR;
 use fsw_base::{Gate, MemSink, MemSource};
 use host_serve::{HostStatus, NoAudit, serve};
 use std::alloc::{AllocError, Global};
@@ -36,6 +35,9 @@ const SIXTEEN: &[u8] = b"app A\nsend 0x0801 8 16\n\
     app N\ncreate p0 4 N\nsub 0x0801 p0\npend p0\n\
     app O\ncreate p0 4 O\nsub 0x0801 p0\npend p0\n\
     app P\ncreate p0 4 P\nsub 0x0801 p0\npend p0\n";
+
+/// Two applications that wait, each on a pipe that nobody sends to.
+const PENDING_PAIR: &[u8] = b"app A\ncreate p0 1 A\npend p0\napp B\ncreate p0 1 B\npend p0\n";
 
 /// All receipts of the first two, in every interleaving that the gate lets pass.
 const RECEIPT: &[u8] = b"\nreceipts\n\

@@ -7,18 +7,10 @@
 #[cfg(test)]
 mod bridge_tests;
 #[cfg(test)]
-mod check_tests;
-#[cfg(test)]
 mod failure_tests;
 #[cfg(test)]
 mod gate_tests;
 #[cfg(test)]
-mod image_tests;
-#[cfg(test)]
-mod pool_tests;
-#[cfg(test)]
 mod report_tests;
 #[cfg(test)]
 mod scripts;
-#[cfg(test)]
-mod serve_tests;

@@ -1,4 +1,0 @@
-pub mod Bags
-pub mod Inside
-pub mod InsideUnused
-pub mod Unused

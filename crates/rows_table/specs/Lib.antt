@@ -1,2 +1,0 @@
-pub mod Bags
-pub mod Inside
