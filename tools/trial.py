@@ -142,7 +142,7 @@ def main(words):
     crates = words[1:] if words else crates_with_tests()
     trials = [*corpus_trials(), *example_trials()]
     program = "the proved program" if is_proved else "the program compiled without a proof"
-    tell(f"{len(trials)} scripts on {program}, and the tests of {len(crates)} crates; three to five minutes on four idle processors")
+    tell(f"{len(trials)} scripts on {program}, and the tests of {len(crates)} crates; five to seven minutes on four idle processors")
     progress = Progress()
     if is_proved:
         judge(progress, trials, answers_of_built([trial.case for trial in trials]))
