@@ -6,7 +6,6 @@ use Rattle.std.specs.List.{All}
 use Rattle.std.specs.Option.{option_map}
 use Rattle.std.proofs.lemmas.List.Elements.{All-nil, All-same}
 use Rattle.fsw_base.specs.Limits.{Limits}
-use Rattle.bus_words.specs.Acts.{opening_whole}
 use Rattle.bus_words.specs.Bus.{Buffer, Active}
 use Rattle.bus_words.specs.Held.{buffers_in}
 use Rattle.bus_messages.specs.Bag.{Shape}
@@ -15,7 +14,7 @@ use Rattle.lend_block.specs.Loan.{LentBytes}
 use Rattle.buf_desc.specs.Held.{Holding}
 use Rattle.bus_core.specs.Core.{Plain}
 use Rattle.bus_core.specs.Bags.{HasBag}
-use Rattle.checked_bus.specs.Box.{Keeps, no_bag}
+use Rattle.checked_bus.specs.Box.{Keeps, no_bag, opened}
 use Rattle.checked_bus.proofs.Kept.{boxed}
 
 no-buffers : (n i : ℕ) → slice_index_or (replicate {A = List Buffer} n []) i [] ≡ []
@@ -25,9 +24,6 @@ no-buffers (suc n) (suc i) = no-buffers n i
 
 abbrev the_shape : ℕ → ℕ → ℕ → Shape
 the_shape desc size asked = record { desc = desc; size = size; asked = asked }
-
-abbrev opened : Limits → ℕ → Plain
-opened limits apps = record { limits = limits; whole = opening_whole limits apps; loans = []; descs = [] }
 
 abbrev empty : Limits → ℕ → Holding LentBytes
 empty limits buffers = record { views = []; buffers = []; view_room = limits.pipes; buffer_room = buffers }

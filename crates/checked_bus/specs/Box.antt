@@ -1,9 +1,11 @@
 -- The bus with the bags of its applications.
-use Rattle.std.specs.Prelude.{◌≡◌, ℕ, ◌-◌, ◌≤◌, List, [], length, slice_index_or, slice_set, Option, None, if◌then◌else◌}
+use Rattle.std.specs.Prelude.{◌≡◌, ℕ, ◌-◌, ◌≤◌, List, [], length, replicate, slice_index_or, slice_set, Option, None, if◌then◌else◌}
 use Rattle.std.specs.List.{All}
 use Rattle.std.specs.Option.{option_map}
+use Rattle.fsw_base.specs.Limits.{Limits}
 use Rattle.lend_block.specs.Loan.{LentBytes}
 use Rattle.buf_desc.specs.Held.{Holding}
+use Rattle.bus_words.specs.Acts.{opening_whole}
 use Rattle.bus_words.specs.Bus.{State, owns}
 use Rattle.bus_words.specs.Held.{buffers_in}
 use Rattle.bus_words.specs.Pipes.{last_on}
@@ -14,6 +16,21 @@ use Rattle.bus_core.specs.Bags.{HasBag}
 pub record Boxed : Type 0 where
   pub core : Plain
   pub bags : List (Holding LentBytes)
+
+-- the bus of so many applications on which no call was made
+abbrev pub opened : Limits → ℕ → Plain
+opened limits apps = record {
+  limits = limits;
+  whole = opening_whole limits apps;
+  loans = [];
+  descs = [];
+}
+
+-- a bag for each of so many applications, empty, with room for so many views and buffers
+abbrev pub empty_bags : ℕ → ℕ → ℕ → List (Holding LentBytes)
+empty_bags apps views buffers =
+    replicate apps
+    (record { views = []; buffers = []; view_room = views; buffer_room = buffers })
 
 -- a bag with nothing in it, and room for nothing
 abbrev pub no_bag : Holding LentBytes

@@ -1,8 +1,7 @@
 //! The box: what it keeps, and how it opens.
-ghost use Rattle.std.specs.Prelude.{◌≡◌, ◌≤◌, [], length, replicate, IfOk};
+ghost use Rattle.std.specs.Prelude.{◌≡◌, ◌≤◌, length, IfOk};
 ghost use Rattle.fsw_base.specs.Limits.{limits_of};
-ghost use Rattle.bus_words.specs.Acts.{opening_whole};
-ghost use Rattle.checked_bus.specs.Box.{Keeps};
+ghost use Rattle.checked_bus.specs.Box.{Keeps, opened, empty_bags};
 
 use crate::lent_bag::LentBag;
 use bus_core::PlainBus;
@@ -57,22 +56,9 @@ impl<'r> SbBox<'r> {
         requires apps { apps ≤ 16 }
         requires region { cfg.now.pool ≤ length region.old }
         ensures core { IfOk result
-            (λ bus. bus.core ≡
-            record {
-              limits = limits_of cfg.now;
-              whole = opening_whole (limits_of cfg.now) apps;
-              loans = [];
-              descs = [];
-            }) }
+            (λ bus. bus.core ≡ opened (limits_of cfg.now) apps) }
         ensures bags { IfOk result
-            (λ bus. bus.bags ≡
-            replicate apps
-            (record {
-              views = [];
-              buffers = [];
-              view_room = cfg.now.pipes;
-              buffer_room = buffers;
-            })) }
+            (λ bus. bus.bags ≡ empty_bags apps cfg.now.pipes buffers) }
     {
         let bags = bags_of(alloc, cfg.pipes, apps, buffers)?;
         let core = PlainBus::new(alloc, cfg, apps as usize, region)?;
@@ -105,9 +91,7 @@ fn bags_of<'r>(
     buffers: u32,
 ) -> Result<Vec<LentBag<'r>>, AllocError>
     ensures { IfOk result
-        (λ bags. bags.items ≡
-        replicate apps
-        (record { views = []; buffers = []; view_room = views; buffer_room = buffers })) }
+        (λ bags. bags.items ≡ empty_bags apps views buffers) }
 {
     let mut bags = Vec::with_capacity(alloc, apps as usize)?;
     for _app in 0..apps {

@@ -2,14 +2,10 @@
 use Rattle.std.proofs.Common.{◌≡◌, ℕ, ◌-◌, ◌<◌, ◌≤◌, false, List, [], length, replicate, refl, sym, ◌∙◌, subst, arith}
 use Rattle.std.proofs.lemmas.List.{get_or-replicate, length-replicate}
 use Rattle.fsw_base.specs.Limits.{Limits}
-use Rattle.tbl_words.specs.Tables.{opening}
 use Rattle.table_blocks.specs.Held.{HeldViews}
 use Rattle.table_core.specs.Core.{Plain, Holds}
-use Rattle.checked_tables.specs.Box.{Keeps, no_bag}
+use Rattle.checked_tables.specs.Box.{Keeps, no_bag, opened}
 use Rattle.checked_tables.proofs.Kept.{boxed}
-
-abbrev opened : Limits → ℕ → Plain
-opened limits apps = record { limits = limits; state = opening limits apps; lent = [] }
 
 abbrev empty : Limits → HeldViews
 empty limits = record { views = []; room = limits.handles }

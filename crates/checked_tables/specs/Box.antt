@@ -1,7 +1,8 @@
 -- The tables with the bags of their applications.
-use Rattle.std.specs.Prelude.{◌≡◌, ℕ, ◌-◌, ◌≤◌, ◌==◌, false, List, [], length, slice_index_or, slice_set, Option, None, if◌then◌else◌}
+use Rattle.std.specs.Prelude.{◌≡◌, ℕ, ◌-◌, ◌≤◌, ◌==◌, false, List, [], length, replicate, slice_index_or, slice_set, Option, None, if◌then◌else◌}
 use Rattle.std.specs.Option.{option_map, option_and_then}
-use Rattle.tbl_words.specs.Tables.{handle_at}
+use Rattle.fsw_base.specs.Limits.{Limits}
+use Rattle.tbl_words.specs.Tables.{handle_at, opening}
 use Rattle.table_blocks.specs.Held.{HeldViews, held_at}
 use Rattle.table_core.specs.Core.{Plain, Holds}
 
@@ -13,6 +14,14 @@ pub record Boxed : Type 0 where
 -- how many applications the tables serve
 abbrev pub apps_in : Plain → ℕ
 apps_in core = length core.state.ended
+
+-- the tables of so many applications on which no call was made
+abbrev pub opened : Limits → ℕ → Plain
+opened limits apps = record { limits = limits; state = opening limits apps; lent = [] }
+
+-- a bag for each of so many applications, empty, with room for so many views
+abbrev pub empty_bags : ℕ → ℕ → List HeldViews
+empty_bags apps views = replicate apps (record { views = []; room = views })
 
 -- a bag with nothing in it, and room for nothing
 abbrev pub no_bag : HeldViews

@@ -1,8 +1,7 @@
 //! The box: what it keeps, and how it opens.
-ghost use Rattle.std.specs.Prelude.{◌≡◌, ◌*◌, ◌≤◌, [], length, replicate, IfOk};
+ghost use Rattle.std.specs.Prelude.{◌≡◌, ◌*◌, ◌≤◌, length, IfOk};
 ghost use Rattle.fsw_base.specs.Limits.{limits_of};
-ghost use Rattle.tbl_words.specs.Tables.{opening};
-ghost use Rattle.checked_tables.specs.Box.{Keeps};
+ghost use Rattle.checked_tables.specs.Box.{Keeps, opened, empty_bags};
 
 use fsw_base::Config;
 use std::alloc::{AllocError, Global};
@@ -57,15 +56,9 @@ impl<'r> TblBox<'r> {
         requires region { cfg.now.tablepool ≤ length region.old }
         requires work { 4 * cfg.now.tablemax ≤ length work.old }
         ensures core { IfOk result
-            (λ tables. tables.core ≡
-            record {
-              limits = limits_of cfg.now;
-              state = opening (limits_of cfg.now) apps;
-              lent = [];
-            }) }
+            (λ tables. tables.core ≡ opened (limits_of cfg.now) apps) }
         ensures bags { IfOk result
-            (λ tables. tables.bags ≡
-            replicate apps (record { views = []; room = cfg.now.handles })) }
+            (λ tables. tables.bags ≡ empty_bags apps cfg.now.handles) }
     {
         let bags = bags_of(alloc, cfg.handles, apps)?;
         let core = PlainTables::new(alloc, cfg, apps as usize, region, work)?;
@@ -92,7 +85,7 @@ impl<'r> TblBox<'r> {
 // The bags of so many applications, empty, each with room for so many views.
 fn bags_of<'r>(alloc: Global, views: u32, apps: u32) -> Result<Vec<HeldTables<'r>>, AllocError>
     ensures { IfOk result
-        (λ bags. bags.items ≡ replicate apps (record { views = []; room = views })) }
+        (λ bags. bags.items ≡ empty_bags apps views) }
 {
     let mut bags = Vec::with_capacity(alloc, apps as usize)?;
     for _app in 0..apps {

@@ -1,9 +1,9 @@
 -- The limits that a program in C gives, and the core that it gets.
-use Rattle.std.specs.Prelude.{◌≡◌, ℕ, ◌&&◌, Bool, nat_le, List, [], replicate, filter}
+use Rattle.std.specs.Prelude.{◌≡◌, ℕ, ◌&&◌, Bool, nat_le, List, [], filter}
 use Rattle.fsw_base.specs.Blocks.{usual_sizes}
 use Rattle.fsw_base.specs.Limits.{Limits}
-use Rattle.bus_words.specs.Acts.{opening_whole}
-use Rattle.tbl_words.specs.Tables.{opening}
+use Rattle.checked_bus.specs.Box.{opened, empty_bags}
+use Rattle.checked_tables.specs.Box.{opened as opened_tables, empty_bags as empty_table_bags}
 use Rattle.fsw_core.specs.declared.Core.{Core}
 use Rattle.fsw_c.specs.declared.limits.FswLimits.{FswLimits}
 
@@ -55,17 +55,7 @@ are_limits given = are_bus_limits given && are_other_limits given
 -- no call was made of the bus and the tables, which serve as many applications as given; and each
 -- application has an empty bag for as much as the limits say
 pub record IsNewCore (given : FswLimits) (core : Core) : Type 0 where
-  pub bus : core.bus.core ≡
-      record {
-        limits = limits_in given;
-        whole = opening_whole (limits_in given) given.apps;
-        loans = [];
-        descs = [];
-      }
-  pub tables : core.tables.core ≡
-      record { limits = limits_in given; state = opening (limits_in given) given.apps; lent = [] }
-  pub bags : core.bus.bags ≡
-      replicate given.apps
-      (record { views = []; buffers = []; view_room = given.pipes; buffer_room = given.buffers })
-  pub table_bags : core.tables.bags ≡
-      replicate given.apps (record { views = []; room = given.handles })
+  pub bus : core.bus.core ≡ opened (limits_in given) given.apps
+  pub tables : core.tables.core ≡ opened_tables (limits_in given) given.apps
+  pub bags : core.bus.bags ≡ empty_bags given.apps given.pipes given.buffers
+  pub table_bags : core.tables.bags ≡ empty_table_bags given.apps given.handles

@@ -19,21 +19,19 @@
 //!   then, and those of all others stay.
 #![tactic(auto)]
 
-ghost use Rattle.std.specs.Prelude.{◌≡◌, ◌≤◌, ◌<◌, [], replicate, None, IsSome, IfOk, OnErr, box_value};
+ghost use Rattle.std.specs.Prelude.{◌≡◌, ◌≤◌, ◌<◌, [], None, IsSome, IfOk, OnErr, box_value};
 ghost use Rattle.std.specs.Result.{result_err};
 ghost use Rattle.fsw_base.specs.Limits.{limits_of};
-ghost use Rattle.bus_words.specs.Acts.{opening_whole};
 ghost use Rattle.bus_words.specs.declared.calls.BusAnswer.TheVariants.{Done};
 ghost use Rattle.bus_words.specs.declared.history.Call.TheVariants.{End};
-ghost use Rattle.tbl_words.specs.Tables.{opening};
 ghost use Rattle.tbl_words.specs.declared.calls.TblAnswer.TheVariants.{Done as TableDone};
 ghost use Rattle.tbl_words.specs.declared.history.Call.TheVariants.{End as TableEnd};
 ghost use Rattle.bus_core.specs.Core.{Acts};
 ghost use Rattle.table_core.specs.Core.{Acts as TableActs};
 ghost use Rattle.checked_bus.specs.Asked.{unasked_end};
-ghost use Rattle.checked_bus.specs.Box.{KeepsOtherBags, bag_of};
+ghost use Rattle.checked_bus.specs.Box.{KeepsOtherBags, bag_of, opened, empty_bags};
 ghost use Rattle.checked_tables.specs.Asked.{unasked as unasked_tables};
-ghost use Rattle.checked_tables.specs.Box.{KeepsOtherBags as KeepsOtherTables, bag_of as table_bag_of};
+ghost use Rattle.checked_tables.specs.Box.{KeepsOtherBags as KeepsOtherTables, bag_of as table_bag_of, opened as opened_tables, empty_bags as empty_table_bags};
 
 mod memory;
 
@@ -70,32 +68,13 @@ impl Core {
     pub fn new(alloc: Global, cfg: &Config, apps: u32, buffers: u32) -> Result<Core, MemoryRefusal>
         requires apps { apps ≤ 16 }
         ensures bus { IfOk result
-            (λ core. core.bus.core ≡
-            record {
-              limits = limits_of cfg.now;
-              whole = opening_whole (limits_of cfg.now) apps;
-              loans = [];
-              descs = [];
-            }) }
+            (λ core. core.bus.core ≡ opened (limits_of cfg.now) apps) }
         ensures tables { IfOk result
-            (λ core. core.tables.core ≡
-            record {
-              limits = limits_of cfg.now;
-              state = opening (limits_of cfg.now) apps;
-              lent = [];
-            }) }
+            (λ core. core.tables.core ≡ opened_tables (limits_of cfg.now) apps) }
         ensures bags { IfOk result
-            (λ core. core.bus.bags ≡
-            replicate apps
-            (record {
-              views = [];
-              buffers = [];
-              view_room = cfg.now.pipes;
-              buffer_room = buffers;
-            })) }
+            (λ core. core.bus.bags ≡ empty_bags apps cfg.now.pipes buffers) }
         ensures table_bags { IfOk result
-            (λ core. core.tables.bags ≡
-            replicate apps (record { views = []; room = cfg.now.handles })) }
+            (λ core. core.tables.bags ≡ empty_table_bags apps cfg.now.handles) }
     {
         let messages = memory::zeros(alloc, cfg.pool as usize)?;
         let values = memory::zeros(alloc, cfg.tablepool as usize)?;
@@ -117,32 +96,13 @@ impl Core {
     ) -> Result<Box<Core>, MemoryRefusal>
         requires apps { apps ≤ 16 }
         ensures bus { IfOk result
-            (λ core. (box_value core).bus.core ≡
-            record {
-              limits = limits_of cfg.now;
-              whole = opening_whole (limits_of cfg.now) apps;
-              loans = [];
-              descs = [];
-            }) }
+            (λ core. (box_value core).bus.core ≡ opened (limits_of cfg.now) apps) }
         ensures tables { IfOk result
-            (λ core. (box_value core).tables.core ≡
-            record {
-              limits = limits_of cfg.now;
-              state = opening (limits_of cfg.now) apps;
-              lent = [];
-            }) }
+            (λ core. (box_value core).tables.core ≡ opened_tables (limits_of cfg.now) apps) }
         ensures bags { IfOk result
-            (λ core. (box_value core).bus.bags ≡
-            replicate apps
-            (record {
-              views = [];
-              buffers = [];
-              view_room = cfg.now.pipes;
-              buffer_room = buffers;
-            })) }
+            (λ core. (box_value core).bus.bags ≡ empty_bags apps cfg.now.pipes buffers) }
         ensures table_bags { IfOk result
-            (λ core. (box_value core).tables.bags ≡
-            replicate apps (record { views = []; room = cfg.now.handles })) }
+            (λ core. (box_value core).tables.bags ≡ empty_table_bags apps cfg.now.handles) }
     {
         let core = Core::new(alloc, cfg, apps, buffers)?;
         memory::box_of(alloc, core)

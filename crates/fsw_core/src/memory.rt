@@ -1,8 +1,8 @@
 //! The memory of a core.
-ghost use Rattle.std.specs.Prelude.{◌≡◌, ◌*◌, ◌≤◌, [], length, replicate, IfOk, box_value};
+ghost use Rattle.std.specs.Prelude.{◌≡◌, ◌*◌, ◌≤◌, length, replicate, IfOk, box_value};
 ghost use Rattle.fsw_base.specs.Limits.{limits_of};
-ghost use Rattle.bus_words.specs.Acts.{opening_whole};
-ghost use Rattle.tbl_words.specs.Tables.{opening};
+ghost use Rattle.checked_bus.specs.Box.{opened, empty_bags};
+ghost use Rattle.checked_tables.specs.Box.{opened as opened_tables, empty_bags as empty_table_bags};
 
 use crate::Core;
 use checked_bus::SbBox;
@@ -44,22 +44,9 @@ pub(crate) fn bus(
     requires apps { apps ≤ 16 }
     requires region { cfg.now.pool ≤ length region.old }
     ensures core { IfOk result
-        (λ bus. bus.core ≡
-        record {
-          limits = limits_of cfg.now;
-          whole = opening_whole (limits_of cfg.now) apps;
-          loans = [];
-          descs = [];
-        }) }
+        (λ bus. bus.core ≡ opened (limits_of cfg.now) apps) }
     ensures bags { IfOk result
-        (λ bus. bus.bags ≡
-        replicate apps
-        (record {
-          views = [];
-          buffers = [];
-          view_room = cfg.now.pipes;
-          buffer_room = buffers;
-        })) }
+        (λ bus. bus.bags ≡ empty_bags apps cfg.now.pipes buffers) }
 {
     SbBox::new(alloc, cfg, apps, buffers, region).map_err(MemoryRefusal::of)
 }
@@ -76,15 +63,9 @@ pub(crate) fn tables(
     requires region { cfg.now.tablepool ≤ length region.old }
     requires work { 4 * cfg.now.tablemax ≤ length work.old }
     ensures core { IfOk result
-        (λ tables. tables.core ≡
-        record {
-          limits = limits_of cfg.now;
-          state = opening (limits_of cfg.now) apps;
-          lent = [];
-        }) }
+        (λ tables. tables.core ≡ opened_tables (limits_of cfg.now) apps) }
     ensures bags { IfOk result
-        (λ tables. tables.bags ≡
-        replicate apps (record { views = []; room = cfg.now.handles })) }
+        (λ tables. tables.bags ≡ empty_table_bags apps cfg.now.handles) }
 {
     TblBox::new(alloc, cfg, apps, region, work).map_err(MemoryRefusal::of)
 }
